@@ -1,0 +1,51 @@
+-- What a question means at a row (004, section 2.2; 01, "Meaning at a row"), by the rows that a path reaches.
+use mathlib.Core.Path.{_≡_}
+use mathlib.Core.Bool.{true}
+use mathlib.Core.Logic.{_⊎_}
+use Rattle.meaning.specs.Tree.{Tree, Below}
+use Rattle.meaning.specs.Question.{Question, Conj, Part, Path, Steps, Rest, Begin, Sign, Move}
+
+module _ (t : Tree) where
+  -- a leading `//` goes to the row itself or any row below
+  abbrev pub Begins : Begin → t .N → t .N → Type 0
+  Begins Begin.plain u v = u ≡ v
+  Begins Begin.deep u v = Below t u v
+
+  abbrev pub Crosses : Sign → t .N → t .N → Type 0
+  Crosses Sign.slash u v = u ≡ v
+  Crosses Sign.slashes u v = Below t u v
+
+  -- `.` stays, `*` goes to any child, a name to a child with that label
+  abbrev pub Moves : Move → t .N → t .N → Type 0
+  Moves Move.dot u v = u ≡ v
+  Moves Move.star u v = t .Child u v
+  Moves (Move.name n) u v = t .Child u v × (t .label? (n .bytes) v ≡ true)
+
+  unfoldable mutual
+    pub Holds : Question → t .N → Type 0
+    Holds (Question.conj c) u = HoldsConj c u
+    Holds (Question.either q c) u = Holds q u ⊎ HoldsConj c u
+
+    pub HoldsConj : Conj → t .N → Type 0
+    HoldsConj (Conj.part p) u = HoldsPart p u
+    HoldsConj (Conj.both c p) u = HoldsConj c u × HoldsPart p u
+
+    -- a path holds if some row is reached
+    pub HoldsPart : Part → t .N → Type 0
+    HoldsPart (Part.deny p) u = HoldsPart p u → ⊥
+    HoldsPart (Part.group q) u = Holds q u
+    HoldsPart (Part.label w) u = t .label? (w .bytes) u ≡ true
+    HoldsPart (Part.text w) u = t .text? (w .bytes) u ≡ true
+    HoldsPart (Part.path p) u = (v : t .N) × Reaches p u v
+
+    pub Reaches : Path → t .N → t .N → Type 0
+    Reaches (Path.from b s) u v = (x : t .N) × Begins b u x × Walks s x v
+
+    pub Walks : Steps → t .N → t .N → Type 0
+    Walks (Steps.step m r) u v = (x : t .N) × Moves m u x × Goes r x v
+
+    pub Goes : Rest → t .N → t .N → Type 0
+    Goes Rest.end u v = u ≡ v
+    Goes (Rest.ends w) u v = (u ≡ v) × (t .text? (w .bytes) u ≡ true)
+    Goes (Rest.bracket q r) u v = Holds q u × Goes r u v
+    Goes (Rest.onward g s) u v = (x : t .N) × Crosses g u x × Walks s x v
