@@ -1,4 +1,4 @@
--- 01's register to try.
+-- The definitions computed on 01's own examples: the list of `brake/text()="B17"`, and case a on the register to try.
 use Prim.Native.Nat.{ℕ, zero, suc, _+_, _*_, _≤_, _<_}
 use mathlib.Core.Path.{_≡_, refl}
 use mathlib.Core.Bool.{Bool, true, false}
@@ -49,6 +49,10 @@ brakeIs = path Begin.plain brake (Rest.ends b17)
 -- //lift[brake/text()="B17"]
 abbrev caseA : Question
 caseA = one (path Begin.deep lift (Rest.bracket (one brakeIs) Rest.end))
+
+brake-list : entries (one brakeIs) ≡ Entry.label (ascii "brake") ∷ Entry.text (ascii "B17") ∷ Entry.at 0 1 ∷ Entry.child 2 ∷ []
+unfolding write normal root flat brake b17
+brake-list = refl
 
 written : write caseA ≡ ascii "//lift[brake/text()=\"B17\"]"
 unfolding write lift brake b17
