@@ -115,6 +115,12 @@ module _ {W : Type 0} where
   flat-fits (Term.and p q) n = fits-two n (flat n p) (flat (suc (root n p)) q) (root n p) (root (suc (root n p)) q) (Entry.and (root n p) (root (suc (root n p)) q)) (flat-fits p n) (flat-fits q (suc (root n p))) (λ h. (h, omega arith))
   flat-fits (Term.not q) n = fits-end n (flat n q) (root n q) (Entry.not (root n q)) (flat-fits q n) (omega arith)
 
+  pub flat-length : (t : Term W) (n : ℕ) → length (flat n t) + n ≡ suc (root n t)
+  flat-length t n = flat-fits t n .size
+
+  pub flat-earlier : (t : Term W) (n : ℕ) → Earlier n (flat n t)
+  flat-earlier t n = flat-fits t n .earlier
+
 pub readers-list : ReadersList
 readers-list q =
     let f = flat-fits (normal (λ a w. w) 0 q) 0 in

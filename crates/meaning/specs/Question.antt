@@ -19,7 +19,7 @@ isNameByte b = isLetter b || within 48 57 b || eqb b 45 || eqb b 95
 
 -- 0x20 to 0x7E, but `"`
 abbrev pub isQuotable : ℕ → Bool
-isQuotable b = within 0x20 0x7e b && not (eqb b 34)
+isQuotable b = not (eqb b 34) && within 0x20 0x7e b
 
 unfoldable pub all : (ℕ → Bool) → Bytes → Bool
 all p [] = true
