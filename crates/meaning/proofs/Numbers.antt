@@ -4,7 +4,9 @@ use native.Mathlib.Omega.{arith}
 use mathlib.Core.Path.{_≡_, refl, sym, ap, subst}
 use mathlib.Core.Bool.{Bool, true, false, cond}
 use mathlib.Core.Logic.{_≢_}
-use lib.Dec.{T, eqb, eqb→eq, eqb-refl, ltb, lt→ltb, ltb→lt}
+use lib.Dec.{T, leb, eqb, eqb→eq, eqb-refl, ltb, lt→ltb, ltb→lt}
+use borrow.Author.Tests.{eqb-true as eqb-yes, eqb-false as eqb-no, ltb-true as ltb-yes, ltb-false as ltb-no, leb-true as leb-yes, leb-false as leb-no}
+use Rattle.meaning.specs.Says.{Says, aye, nay}
 use Rattle.meaning.specs.Run.{upd}
 
 passed : (b : Bool) → T b → b ≡ true
@@ -39,3 +41,17 @@ module _ {X : Type 0} where
 
   pub upd-other : (f : ℕ → X) (i : ℕ) (x : X) (j : ℕ) → j ≢ i → upd f i x j ≡ f j
   upd-other f i x j h = ap (λ b. cond b x (f j)) (eqb-false j i h)
+
+-- a test's truth value says what is tested
+decides : {A : Type 0} (b : Bool) → (b ≡ true → A) → (b ≡ false → A → ⊥) → Says A b
+decides true h k = aye (h refl)
+decides false h k = nay (k refl)
+
+pub says-eqb : (a b : ℕ) → Says (a ≡ b) (eqb a b)
+says-eqb a b = decides (eqb a b) (eqb-yes a b) (eqb-no a b)
+
+pub says-ltb : (a b : ℕ) → Says (a < b) (ltb a b)
+says-ltb a b = decides (ltb a b) (ltb-yes a b) (λ e h. omega (arith, ltb-no a b e))
+
+pub says-leb : (a b : ℕ) → Says (a ≤ b) (leb a b)
+says-leb a b = decides (leb a b) (leb-yes a b) (λ e h. omega (arith, leb-no a b e))

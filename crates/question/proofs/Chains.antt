@@ -11,7 +11,7 @@ use Rattle.meaning.specs.Bytes.{Bytes}
 use Rattle.meaning.specs.Question.{Question, Conj, Part, write, writeConj, writePart}
 use Rattle.meaning.specs.Term.{Term, normal, normalConj, normalPart}
 use Rattle.meaning.specs.Entry.{root}
-use Rattle.question.specs.declared.State.{State}
+use Rattle.question.specs.declared.reader.State.{State}
 use Rattle.question.specs.Packed.{Place, placeOf}
 use Rattle.question.specs.Reading.{added, moved, byteAt, reach, reachConj, reachPart, Form, TreeOf, textOf, termOf, reachOf, PathEnds, ConjEnds, QuestionEnds, Follows, Made, MadeOf, slack, Ready, Goes, Reads, Chain, whole, item, sign, single, joined, grown, writeChain, Extends}
 use Rattle.question.proofs.Text.{inside, head-at, cons-at}

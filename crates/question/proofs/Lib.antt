@@ -14,3 +14,4 @@ pub mod Pack
 pub mod Alike
 pub mod Placed
 pub mod Outcome
+pub mod Codes

@@ -9,7 +9,7 @@ use Rattle.meaning.specs.Bytes.{Bytes}
 use Rattle.meaning.specs.Term.{Term}
 use Rattle.meaning.specs.Entry.{root}
 use Rattle.question.specs.declared.List as L
-use Rattle.question.specs.declared.State.{State}
+use Rattle.question.specs.declared.reader.State.{State}
 use Rattle.question.specs.Packed.{Place}
 use Rattle.question.specs.Reading.{pushed, added, moved, deepened, opened, byteAt, emitted, Made}
 use Rattle.question.proofs.Text.{cons-at, rest-at}

@@ -14,7 +14,7 @@ use Rattle.meaning.specs.Term.{normal}
 use Rattle.meaning.specs.Entry.{Entry, flat, entries, Earlier}
 use Rattle.meaning.proofs.Entry.{flat-earlier}
 use Rattle.question.specs.declared.List as L
-use Rattle.question.specs.declared.State.{State}
+use Rattle.question.specs.declared.reader.State.{State}
 use Rattle.question.specs.declared.Answer.{Answer}
 use Rattle.question.specs.Nesting.{nesting}
 use Rattle.question.specs.Packed.{Place, placeOf, placedEntries, packed, emptyList}

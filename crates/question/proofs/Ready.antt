@@ -8,7 +8,7 @@ use lib.ListN.{length, drop}
 use lib.Dec.{lit<}
 use Rattle.meaning.specs.Bytes.{Bytes}
 use Rattle.meaning.specs.Question.{isLetter}
-use Rattle.question.specs.declared.State.{State}
+use Rattle.question.specs.declared.reader.State.{State}
 use Rattle.question.specs.Reading.{added, moved, deepened, byteAt, shutBy, fronts, Form, slack, Ready, Goes, Reads}
 use Rattle.question.proofs.Text.{inside}
 use Rattle.question.proofs.Units.{stand-inside, shut-at}

@@ -14,7 +14,7 @@ use Rattle.meaning.specs.Question.{Question, Part, Path, Begin, Steps, Quoted, 
 use Rattle.meaning.specs.Term.{Term, normal, normalPart, normalPath, normalSteps}
 use Rattle.meaning.specs.Entry.{root}
 use Rattle.question.specs.declared.List as L
-use Rattle.question.specs.declared.State.{State}
+use Rattle.question.specs.declared.reader.State.{State}
 use Rattle.question.specs.Packed.{Place, placeOf}
 use Rattle.question.specs.Reading.{pushed, added, moved, deepened, opened, failed, byteAt, shutBy, fronts, emitted, reach, reachPart, reachPath, reachSteps, Form, PathEnds, ConjEnds, QuestionEnds, Made, MadeOf, Goes, Reads, afterQuoted, Quotes}
 use Rattle.question.proofs.Text.{inside, head-at, cons-at, rest-at, fronts-split}

@@ -12,7 +12,7 @@ use Rattle.meaning.specs.Bytes.{Bytes, ascii}
 use Rattle.meaning.specs.Question.{Question, Steps, Rest, Sign, Move, Name, Quoted, isLetter, isNameByte, isName, writeQuoted, write, writeSteps, writeRest}
 use Rattle.meaning.specs.Term.{Term, normal, normalSteps, normalRest}
 use Rattle.meaning.specs.Entry.{root}
-use Rattle.question.specs.declared.State.{State}
+use Rattle.question.specs.declared.reader.State.{State}
 use Rattle.question.specs.Packed.{Place, placeOf}
 use Rattle.question.specs.Reading.{added, moved, deepened, opened, failed, byteAt, shutBy, fronts, span, reach, reachSteps, reachRest, Form, PathEnds, Made, MadeOf, Goes, Reads, afterQuoted, Quotes}
 use Rattle.question.proofs.Text.{inside, letter-inside, head-at, rest-at, span-inside, span-more}

@@ -10,7 +10,7 @@ use lib.Seq.{drop-drop, getD-drop, length-take-le, take-append-seam, getD-append
 use lib.Dec.{T, leb, le→leb, leb→le, lit<}
 use Rattle.meaning.specs.Bytes.{Bytes}
 use Rattle.meaning.specs.Question.{Quoted, isLetter, isNameByte, isQuotable, isName, isQuoted, all, writeQuoted}
-use Rattle.question.specs.declared.State.{State}
+use Rattle.question.specs.declared.reader.State.{State}
 use Rattle.question.specs.Reading.{added, moved, failed, byteAt, span, Goes, afterQuoted, Quotes}
 use Rattle.question.proofs.Text.{inside, head-at, rest-at, cons-at, span-fits, span-inside}
 use Rattle.question.proofs.Heads.{both, holds, span-all}

@@ -13,7 +13,7 @@ use Rattle.meaning.specs.Question.{write, writeConj, writePart, writePath, writ
 use Rattle.meaning.specs.Term.{Term, normal, normalConj, normalPart, normalPath, normalSteps, normalRest}
 use Rattle.meaning.specs.Entry.{Entry, root, flat}
 use Rattle.question.specs.declared.List as L
-use Rattle.question.specs.declared.State.{State}
+use Rattle.question.specs.declared.reader.State.{State}
 use Rattle.question.specs.declared.Answer.{Answer}
 use Rattle.question.specs.Nesting.{nesting}
 use Rattle.question.specs.Packed.{Place, placeOf, kindCode, leftOf, rightOf, placedEntries, emptyList}

@@ -1,0 +1,52 @@
+-- `question::scan` meets its contract. Assumes nothing.
+use Prim.Native.Nat.{ℕ, _≤_, _<_}
+use mathlib.Core.Path.{_≡_, refl, sym, ap, _∙_}
+use mathlib.Core.Bool.{Bool, true, false, not, true≢false, false≢true}
+use mathlib.Core.Logic.{_⊎_, inl, inr}
+use native.Mathlib.Omega.{arith}
+use Rattle.question.specs.Reading.{Scanned}
+use Rattle.question.proofs.Outcome.{start-ready, not-written, scan-deep, scan-read, not-yes, not-no}
+use borrow.Author.Needs.{needs}
+use Rattle.question.proofs.reader.scan.Statement.{statement}
+use Rattle.question.proofs.reader.scan.Tie as tie
+use Rattle.question.proofs.reader.scan.Reads as reads
+use Rattle.question.proofs.reader.scan.Lts as lts
+use Rattle.question.proofs.reader.nothing.Reads as nothing-reads
+use Rattle.question.proofs.reader.question.Reads as question-reads
+
+nothing-requires : tie.Need-nothing-requires
+nothing-requires c κs = tt
+
+returns : tie.Need-returns
+returns c = rw (c .before .nothing .ensures) (Scanned.wrong-length (inl (c .if1 .taken)))
+
+returns-2 : tie.Need-returns-2
+returns-2 c = rw (c .before .before .nothing .ensures) (Scanned.wrong-length (inr (c .if2 .taken)))
+
+question-requires : tie.Need-question-requires
+question-requires c κs = rw (c .before .before .nothing .ensures) (start-ready (c .before .before .before .before .args .text .now) (omega arith))
+
+returns-3 : tie.Need-returns-3
+returns-3 c = rw (c .before .before .before .before .before .nothing .ensures) (Scanned.not-grammar (omega arith) (omega arith) (not-written (c .before .before .before .before .before .before .before .args .text .now) (c .before .before .question .result) (rw (c .before .before .before .before .before .nothing .ensures) at (c .before .before .question .ensures)) (λ ok e. not-yes _ (c .if3 .taken) ok)))
+
+returns-4 : tie.Need-returns-4
+returns-4 c = rw (c .before .before .before .before .before .before .nothing .ensures) (Scanned.not-grammar (omega arith) (omega arith) (not-written (c .before .before .before .before .before .before .before .before .args .text .now) (c .before .before .before .question .result) (rw (c .before .before .before .before .before .before .nothing .ensures) at (c .before .before .before .question .ensures)) (λ ok e. c .if4 .taken e)))
+
+returns-5 : tie.Need-returns-5
+returns-5 c = rw (c .before .before .before .before .before .before .before .before .nothing .ensures) (scan-deep (c .before .before .before .before .before .before .before .before .before .before .args .text .now) (c .before .before .before .before .before .question .result) (rw (c .before .before .before .before .before .before .before .before .nothing .ensures) at (c .before .before .before .before .before .question .ensures)) (omega arith) (omega arith) (not-no _ (c .before .before .before .if3 .left)) (c .before .before .if4 .left) (c .if5 .taken))
+
+returns-6 : tie.Need-returns-6
+returns-6 c = scan-read (c .before .before .before .before .before .before .before .before .before .before .before .args .text .now) (c .before .before .before .before .before .before .question .result) (rw (c .before .before .before .before .before .before .before .before .before .nothing .ensures) at (c .before .before .before .before .before .before .question .ensures)) (omega arith) (omega arith) (not-no _ (c .before .before .before .before .if3 .left)) (c .before .before .before .if4 .left) (c .before .if5 .left)
+
+pub scan-spec : {M : Type 1} → statement M
+scan-spec =
+    tie.close
+    (tie.spec
+    nothing-requires
+    returns
+    returns-2
+    question-requires
+    returns-3
+    returns-4
+    returns-5
+    returns-6)
