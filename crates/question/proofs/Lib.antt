@@ -15,3 +15,5 @@ pub mod Alike
 pub mod Placed
 pub mod Outcome
 pub mod Codes
+pub mod Pages
+pub mod Lines

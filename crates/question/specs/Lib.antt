@@ -4,5 +4,7 @@ pub mod Listed
 pub mod Nesting
 pub mod Packed
 pub mod Read
+pub mod Listing
 pub mod Promise
 pub mod Reading
+pub mod Page

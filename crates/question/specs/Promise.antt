@@ -8,6 +8,8 @@ use Rattle.question.specs.declared.List as L
 use Rattle.question.specs.declared.Answer.{Answer}
 use Rattle.question.specs.Listed.{Keeps, listed}
 use Rattle.question.specs.Read.{Written, Read}
+use Rattle.question.specs.declared.Shown.{Shown}
+use Rattle.question.specs.Listing.{Lists}
 
 -- no text is written by two trees
 abbrev pub WriteOnce : Type 0
@@ -23,3 +25,7 @@ ReadKeeps = (t : Bytes) (l : L.List) → Read t (record { refusal = 0; list = l 
 
 abbrev pub ReadListed : Type 0
 ReadListed = (t : Bytes) (l : L.List) → Read t (record { refusal = 0; list = l }) → (w : Written t) → listed l t ≡ entries (w .tree)
+
+-- the contract of `question_listing` allows one answer, and one content of the lent bytes
+abbrev pub OneListing : Type 0
+OneListing = (l : L.List) (t old : Bytes) (r s : Shown) (x y : Bytes) → Lists l t old r x → Lists l t old s y → (r ≡ s) × (x ≡ y)

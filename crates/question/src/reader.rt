@@ -11,7 +11,6 @@ ghost use Rattle.question.specs.Packed.{emptyList};
 ghost use Rattle.question.specs.Read.{Read};
 ghost use Rattle.question.specs.Reading.{pushed, added, moved, failed, deepened, byteAt, shutBy, fronts, passes, span, Form, Chain, Ready, Reads, Extends, Quotes, Scanned};
 
-
 // Where reading stands: whether all went well, the place in the text, the number of the entry that was read last, how many
 // brackets are open and the most that ever were, and the entries, of which the first 32 are kept.
 pub struct State {
