@@ -8,7 +8,7 @@ ghost use mathlib.Core.List.{[], _∷_};
 ghost use lib.ListN.{length, drop};
 ghost use Rattle.meaning.specs.Question.{within as inRange, isLetter, isNameByte, isQuotable};
 ghost use Rattle.question.specs.Packed.{emptyList};
-ghost use Rattle.question.specs.Read.{Read};
+ghost use Rattle.question.specs.Read.{Read, refused};
 ghost use Rattle.question.specs.Reading.{pushed, added, moved, failed, deepened, byteAt, shutBy, fronts, passes, span, Form, Chain, Ready, Reads, Extends, Quotes, Scanned};
 
 // Where reading stands: whether all went well, the place in the text, the number of the entry that was read last, how many
@@ -389,23 +389,26 @@ fn rest(text: &[u8], s: State) -> State
     steps(text, to(s, at + 1))
 }
 
+// A refusal, with an empty list.
+fn refuse(number: u8) -> Answer
+    ensures { λ r. ⌜ r ≡ refused number ⌝ }
+{
+    Answer {
+        refusal: number,
+        list: nothing(),
+    }
+}
+
 // What becomes of a text, 4 apart: its number of refusal 1, 2 or 3, or 0, and its entries, of which the first 32 are kept.
 fn scan(text: &[u8]) -> Answer
     ensures { λ r. ⌜ Scanned (now (text .entry)) r ⌝ }
 {
-    let none = nothing();
     let n = text.len();
     if n == 0 {
-        return Answer {
-            refusal: 1,
-            list: none,
-        };
+        return refuse(1);
     }
     if 255 < n {
-        return Answer {
-            refusal: 1,
-            list: none,
-        };
+        return refuse(1);
     }
     let start = State {
         ok: true,
@@ -413,27 +416,18 @@ fn scan(text: &[u8]) -> Answer
         top: 0,
         depth: 0,
         most: 0,
-        list: none,
+        list: nothing(),
     };
     let s = question(text, start);
     let at = s.at;
     if !s.ok {
-        return Answer {
-            refusal: 2,
-            list: none,
-        };
+        return refuse(2);
     }
     if at != n {
-        return Answer {
-            refusal: 2,
-            list: none,
-        };
+        return refuse(2);
     }
     if 12 < s.most {
-        return Answer {
-            refusal: 3,
-            list: none,
-        };
+        return refuse(3);
     }
     let list = s.list;
     Answer { refusal: 0, list }
@@ -443,14 +437,10 @@ fn scan(text: &[u8]) -> Answer
 pub extern "C" fn question_read(text: &[u8]) -> Answer
     ensures { λ r. ⌜ Read (now (text .entry)) r ⌝ }
 {
-    let none = nothing();
     let a = scan(text);
     let list = a.list;
     if 32 < list.count {
-        return Answer {
-            refusal: 4,
-            list: none,
-        };
+        return refuse(4);
     }
     a
 }

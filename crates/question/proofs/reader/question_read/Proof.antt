@@ -7,20 +7,20 @@ use Rattle.question.proofs.reader.question_read.Statement.{statement}
 use Rattle.question.proofs.reader.question_read.Tie as tie
 use Rattle.question.proofs.reader.question_read.Reads as reads
 use Rattle.question.proofs.reader.question_read.Lts as lts
-use Rattle.question.proofs.reader.nothing.Reads as nothing-reads
+use Rattle.question.proofs.reader.refuse.Reads as refuse-reads
 use Rattle.question.proofs.reader.scan.Reads as scan-reads
-
-nothing-requires : tie.Need-nothing-requires
-nothing-requires c κs = tt
 
 scan-requires : tie.Need-scan-requires
 scan-requires c κs = tt
 
+refuse-requires : tie.Need-refuse-requires
+refuse-requires c κs = tt
+
 returns : tie.Need-returns
-returns c = rw (c .before .before .before .before .nothing .ensures) (over-many (c .before .before .before .scan .ensures) (c .if1 .taken))
+returns c = rw (c .refuse .ensures) (over-many (c .before .before .before .before .scan .ensures) (c .before .if1 .taken))
 
 returns-2 : tie.Need-returns-2
 returns-2 c = few-enough (c .before .before .before .scan .ensures) (c .if1 .left)
 
 pub question-read-spec : {M : Type 1} → statement M
-question-read-spec = tie.close (tie.spec nothing-requires scan-requires returns returns-2)
+question-read-spec = tie.close (tie.spec scan-requires refuse-requires returns returns-2)
