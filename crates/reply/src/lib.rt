@@ -1,1 +1,1 @@
-// Replies.
+// A reply and its bits: reading, writing, and the check that any bytes are one.

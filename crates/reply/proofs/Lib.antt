@@ -1,0 +1,8 @@
+-- The laws of the definitions in specs/, and the proofs of what `specs/Promise.antt` promises.
+pub mod Lists
+pub mod Fields
+pub mod Sound
+pub mod Parts
+pub mod Tests
+pub mod Judged
+pub mod Round
