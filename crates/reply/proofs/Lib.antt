@@ -6,3 +6,5 @@ pub mod Parts
 pub mod Tests
 pub mod Judged
 pub mod Round
+pub mod Judge
+pub mod Verdicts
