@@ -8,3 +8,5 @@ pub mod Judged
 pub mod Round
 pub mod Judge
 pub mod Verdicts
+pub mod Codes
+pub mod Whole

@@ -56,10 +56,14 @@ module _ {A : Type 0} where
         let z : a + W * suc i ≡ a + W + W * i = rw mul-suc (omega arith) in
         rw z (each-at s d xs (a + W) b (holds-split (a + W) (f x) (each f xs) (rw wide refl) h .1) i (omega arith))
 
+  pub each-append : (f : A → List Bool) (xs ys : List A) → each f (xs ++ ys) ≡ each f xs ++ each f ys
+  unfolding each
+  each-append f [] ys = refl
+  each-append f (x ∷ xs) ys = rw (each-append f xs ys, append-assoc) refl
+
   pub each-snoc : (f : A → List Bool) (xs : List A) (x : A) → each f (xs ++ (x ∷ [])) ≡ each f xs ++ f x
   unfolding each
-  each-snoc f [] x = append-nil (f x)
-  each-snoc f (y ∷ xs) x = rw (each-snoc f xs x, append-assoc) refl
+  each-snoc f xs x = each-append f xs (x ∷ []) ∙ rw append-nil refl
 
   pub each-none : (f : A → List Bool) (g : ℕ → A) → each f (tabulated 0 0 g) ≡ []
   unfolding each tabulated

@@ -17,7 +17,7 @@ use Rattle.reply.specs.Write.{replyBits, write}
 use Rattle.reply.specs.WellFormed.{vars, WellFormed, Fits}
 use Rattle.reply.specs.Read.{decoded, wellFormed, fits, read, Is}
 use Rattle.reply.specs.Places.{Sound}
-use Rattle.reply.specs.Promise.{WriteRead, ReadWrite, OneReply, Fits12, MostBytes, Size}
+use Rattle.reply.specs.Promise.{WriteRead, ReadWrite, OneReply, Fits12, MostBytes, SizeIs}
 use Rattle.reply.proofs.Tests.{says-same-bytes}
 use Rattle.reply.proofs.Judged.{says-formed, says-fits}
 use Rattle.reply.proofs.Sound.{Writes, sound-formed, sound-writes}
@@ -96,12 +96,12 @@ fits-12 r g = record {
   steps-fit = omega (arith, g .few-steps);
 }
 
-pub size : Size
+pub size-is : SizeIs
 unfolding write
-size w r v d = bytesOf-length (replyBits w r) ∙ rw (bits-length w r v d) refl
+size-is w r v d = bytesOf-length (replyBits w r) ∙ rw (bits-length w r v d) refl
 
 pub most-bytes : MostBytes
-most-bytes r g = rw (size 12 r (g .v-all) (g .d-all)) (omega (arith, g .few-ins, g .few-steps, g .few-entries))
+most-bytes r g = rw (size-is 12 r (g .v-all) (g .d-all)) (omega (arith, g .few-ins, g .few-steps, g .few-entries))
 
 -- with 12 bits, sound bytes are a reply
 pub sound-read : (s : Bytes) → Octets s → Sound 12 s → read 12 s ≡ some (decoded 12 s)

@@ -1,10 +1,13 @@
 -- What the functions answer.
 use Prim.Native.Nat.{ℕ, _+_, _^_, _≤_, _<_}
 use mathlib.Core.Path.{_≡_}
+use mathlib.Core.List.{_++_}
+use lib.ListN.{length, drop}
 use mathlib.Core.Option.{Option, none, some}
 use Rattle.bits.specs.Bits.{fieldAt}
 use Rattle.meaning.specs.Bytes.{Bytes}
 use Rattle.meaning.specs.Reply.{Reply}
+use Rattle.reply.specs.Write.{write}
 use Rattle.reply.specs.Read.{refWidth, stepWidth, numberOf, fragmentOf, entriesOf, insOf, stepsOf, inAt}
 use Rattle.reply.specs.declared.Head.{Head}
 use Rattle.reply.specs.declared.RefField.{RefField}
@@ -49,3 +52,8 @@ pub record StepIs (w : ℕ) (s : Bytes) (at : ℕ) (t : StepField) : Type 0 wher
   pub kind2-lt : t .kind2 < 4
   pub number1-lt : t .number1 < 2 ^ w
   pub number2-lt : t .number2 < 2 ^ w
+
+-- what writing leaves: the reply's bytes, and the old ones past its end
+pub record Written (w : ℕ) (r : Reply) (old new : Bytes) (size : ℕ) : Type 0 where
+  pub bytes : new ≡ write w r ++ drop (length (write w r)) old
+  pub size-is : size ≡ length (write w r)

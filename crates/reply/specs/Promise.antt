@@ -9,7 +9,7 @@ use Rattle.meaning.specs.Bytes.{Bytes}
 use Rattle.meaning.specs.Reply.{Reply}
 use Rattle.reply.specs.Write.{write}
 use Rattle.reply.specs.WellFormed.{WellFormed, Fits}
-use Rattle.reply.specs.Read.{wellFormed, fits, read, Is, endOf}
+use Rattle.reply.specs.Read.{wellFormed, fits, read, Is, size}
 
 -- the tests that `read` makes say what `WellFormed` and `Fits` say
 abbrev pub Judged : Type 0
@@ -35,6 +35,6 @@ abbrev pub MostBytes : Type 0
 MostBytes = (r : Reply) → WellFormed r → length (write 12 r) ≤ 15_499
 
 -- how many bytes a reply has
-abbrev pub Size : Type 0
-Size = (w : ℕ) (r : Reply) → length (r .v) ≡ r .entries → length (r .d) ≡ r .entries
-    → length (write w r) ≡ bytesFor (endOf w (length (r .ins)) (length (r .steps)) (r .entries))
+abbrev pub SizeIs : Type 0
+SizeIs = (w : ℕ) (r : Reply) → length (r .v) ≡ r .entries → length (r .d) ≡ r .entries
+    → length (write w r) ≡ size w (length (r .ins)) (length (r .steps)) (r .entries)

@@ -5,7 +5,7 @@ use mathlib.Core.Bool.{Bool, true, false, not, _&&_, cond}
 use mathlib.Core.Option.{Option, none, some}
 use lib.ListN.{length, getD}
 use lib.Dec.{eqb, ltb, leb}
-use Rattle.bits.specs.Bits.{fieldAt}
+use Rattle.bits.specs.Bits.{bytesFor, fieldAt}
 use Rattle.meaning.specs.Bytes.{Bytes, sameBytes}
 use Rattle.meaning.specs.Formula.{Ref, Step}
 use Rattle.meaning.specs.Reply.{Reply, tabulated}
@@ -33,6 +33,10 @@ vTo w k m n = stepsTo w k m + refWidth w * n
 
 abbrev pub endOf : ℕ → ℕ → ℕ → ℕ → ℕ
 endOf w k m n = vTo w k m n + refWidth w * n
+
+-- how many bytes that is
+abbrev pub size : ℕ → ℕ → ℕ → ℕ → ℕ
+size w k m n = bytesFor (endOf w k m n)
 
 -- ---- fields
 unfoldable pub refFrom : ℕ → ℕ → Ref
