@@ -4,7 +4,7 @@ use Prim.Native.Nat.{ℕ, suc, _+_, _-_, _*_, _/_, _%_, _^_, _≤_, _<_}
 use native.Mathlib.Nat.{div-add-mod, le-refl, suc-inj, add-comm, add-mul, mul-assoc, mul-zero, mul-suc, mod-lt, mod-eq-of-lt}
 use native.Mathlib.Omega.{arith}
 use mathlib.Core.Bool.{Bool}
-use mathlib.Core.List.{List, [], _∷_, _++_, append-assoc, append-nil}
+use mathlib.Core.List.{List, [], _∷_, _++_, append-assoc}
 use lib.ListN.{length, take, drop, getD, set, length-append, length-set}
 use lib.Seq.{take-set-le, drop-set-lt, getD-set-same, lt-length-set, take-at, drop-at, split-at, length-take-le}
 use lib.Pow.{shr-lt, pow-pos, pow-add, shr-shr, split, high, low}
@@ -28,11 +28,6 @@ pub fields-append : (w : ℕ) (xs ys : List ℕ) → fields w (xs ++ ys) ≡ fie
 unfolding fields
 fields-append w [] ys = refl
 fields-append w (x ∷ xs) ys = rw (fields-append w xs ys, append-assoc)
-
--- one field more
-pub fields-snoc : (w : ℕ) (xs : List ℕ) (x : ℕ) → fields w (xs ++ (x ∷ [])) ≡ fields w xs ++ digits w x
-unfolding fields
-fields-snoc w xs x = rw (fields-append, append-nil) refl
 
 -- numbers of w bits are told apart by their fields
 pub fields-inj : (w : ℕ) (s t : List ℕ) → length s ≡ length t → ((i : ℕ) → getD s i 0 < 2 ^ w) → ((i : ℕ) → getD t i 0 < 2 ^ w)

@@ -10,6 +10,7 @@ use lib.ListN.{length, replicate, replicate-append-replicate, length-append}
 use lib.Pow.{pow-pos, pow-add, shr-shr, split, high, mod-pow-add}
 use lib.Arith.{digits-lt}
 use Rattle.bits.specs.Bits.{bit, worth, digits, number}
+use Rattle.bits.specs.Promise.{NumberDigits, DigitsNumber}
 
 -- ---- one bit
 
@@ -73,7 +74,7 @@ digits-low (suc w) h l =
     (bit-mod ((h * 2 * 2 ^ w + l) / 2 ^ w) (l / 2 ^ w) (rw (mul-add-div-right (pow-pos w) (h * 2) l) (mul-add-mod-self-right h 2 (l / 2 ^ w))))
     (digits-low w (h * 2) l))
 
-pub digits-number : (bs : List Bool) → digits (length bs) (number bs) ≡ bs
+pub digits-number : DigitsNumber
 unfolding digits number
 digits-number [] = refl
 digits-number (b ∷ bs) =
@@ -87,16 +88,11 @@ digits-add zero b v = rw zero-add
 digits-add (suc a) b v = rw (suc-add, digits-add a b v, shr-shr, add-comm b a)
 
 -- taking back what was put, and putting back what was taken
-pub number-digits-lt : (w v : ℕ) → v < 2 ^ w → number (digits w v) ≡ v
+pub number-digits-lt : NumberDigits
 number-digits-lt w v h = number-digits w v ∙ mod-eq-of-lt h
 
 pub digits-number-at : (w : ℕ) (bs : List Bool) → length bs ≡ w → digits w (number bs) ≡ bs
 digits-number-at w bs e = rw (← e) (digits-number bs)
-
--- one bit more, as a reader adds it
-pub number-snoc : (bs : List Bool) (b : Bool) → number (bs ++ (b ∷ [])) ≡ number bs * 2 + worth b
-unfolding number
-number-snoc bs b = rw number-append (omega arith)
 
 -- numbers with the same w lowest bits
 pub digits-same : (w a b : ℕ) → a % 2 ^ w ≡ b % 2 ^ w → digits w a ≡ digits w b

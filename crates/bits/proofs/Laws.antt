@@ -4,11 +4,12 @@ use Prim.Native.Nat.{ℕ, _+_, _-_, _*_, _^_, _≤_, _<_}
 use native.Mathlib.Nat.{mul-suc, mul-le-mul-left}
 use native.Mathlib.Omega.{arith}
 use mathlib.Core.Bool.{Bool, false}
-use mathlib.Core.List.{List, [], _++_, append-assoc, append-nil}
-use lib.ListN.{length, take, drop, replicate, length-replicate, length-append, length-take, length-drop, take-append-drop, drop-of-length-le}
-use lib.Seq.{take-length, take-all, take-at, drop-at, length-take-le, take-append-le, drop-append-le, drop-drop, take-add}
+use mathlib.Core.List.{List, [], _++_, append-assoc}
+use lib.ListN.{length, take, drop, replicate, length-replicate, length-append, length-take, length-drop, take-append-drop}
+use lib.Seq.{take-length, take-all, take-at, drop-at, length-take-le, drop-drop, take-add}
 use lib.Pow.{pow-pos}
 use Rattle.bits.specs.Bits.{digits, number, bitsOf, bitsAt, fieldAt, Holds, Wrote}
+use Rattle.bits.specs.Promise.{TakePut}
 use Rattle.bits.proofs.Digits.{digits-length, number-lt, number-append, number-digits-lt, digits-number-at, zeros-more}
 use Rattle.bits.proofs.Byte.{append-front, append-back, bitsOf-length}
 
@@ -48,11 +49,6 @@ wrote-append {s} {t} {u} {a} {b} {c} {xs} {ys} p q =
       kept = q .kept ∙ p .kept;
       bits = q .bits ∙ rw (wrote-front p, wrote-later p c (omega (arith, q .end))) (simp append-assoc);
     }
-
--- a buffer that is written from its first bit to its last
-pub wrote-whole : {s t : List ℕ} {next : ℕ} {bs : List Bool} → Wrote s t 0 next bs → next ≡ 8 * length s → bitsOf t ≡ bs
-wrote-whole {s} {t} {next} {bs} w e =
-    w .bits ∙ rw (drop-of-length-le (bitsOf s) {i = next} (omega (arith, bitsOf-length s)), append-nil) refl
 
 -- ---- reading
 
@@ -119,17 +115,7 @@ whole-holds {s} {bs} e =
     let l : length bs ≡ 8 * length s = sym (ap length e) ∙ bitsOf-length s in
     record { end = omega arith; room = omega arith; there = rw e (take-length bs) }
 
--- what stands in s from one bit to another is one list
-pub holds-same : {s : List ℕ} {a b : ℕ} {xs ys : List Bool} → Holds s a b xs → Holds s a b ys → xs ≡ ys
-holds-same {s} {a} {b} {xs} {ys} p q =
-    let e : length xs ≡ length ys = omega (arith, p .end, q .end) in
-    sym (p .there) ∙ rw e (q .there)
-
 -- ---- a write, then a read
-
-inside : (p r : List Bool) (from n : ℕ) → from + n ≤ length p → take n (drop from (p ++ r)) ≡ take n (drop from p)
-inside p r from n h =
-    rw (drop-append-le from p r (omega arith), take-append-le n (drop from p) r (simp length-drop (omega arith))) refl
 
 module _ {s t : List ℕ} {at next : ℕ} {bs : List Bool} (w : Wrote s t at next bs) where
   pub wrote-holds : Holds t at next bs
@@ -141,31 +127,9 @@ module _ {s t : List ℕ} {at next : ℕ} {bs : List Bool} (w : Wrote s t at nex
         there = rw (w .bits, drop-at (take at (bitsOf s)) (bs ++ drop next (bitsOf s)) at (start w)) (take-at bs (drop next (bitsOf s)) (length bs) refl);
       }
 
-  -- a run that ends before the write, or starts after it, is as it was
-  pub wrote-before : (from n : ℕ) → from + n ≤ at → bitsAt t from n ≡ bitsAt s from n
-  unfolding bitsAt
-  wrote-before from n h =
-      let fits : from + n ≤ length (take at (bitsOf s)) = rw (start w) h in
-      rw (w .bits, inside (take at (bitsOf s)) (bs ++ drop next (bitsOf s)) from n fits)
-      (sym (inside (take at (bitsOf s)) (drop at (bitsOf s)) from n fits) ∙ rw take-append-drop refl)
-
-  pub wrote-after : (from n : ℕ) → next ≤ from → bitsAt t from n ≡ bitsAt s from n
-  unfolding bitsAt
-  wrote-after from n h = rw (wrote-later w from h) refl
-
 -- taking the field just put gives the value back
-pub take-put : {s t : List ℕ} {at next : ℕ} (w v : ℕ) → v < 2 ^ w → Wrote s t at next (digits w v) → fieldAt t at w ≡ v
-take-put w v h p = holds-field w v h (wrote-holds p)
-
-whole : (l : List Bool) (at w : ℕ) → take at l ++ (take w (drop at l) ++ drop (at + w) l) ≡ l
-whole l at w = rw (← drop-drop w at l, take-append-drop w (drop at l), take-append-drop at l) refl
-
--- putting the field just taken leaves every bit as it was
-pub put-take : {s t : List ℕ} {at next : ℕ} (w : ℕ) → Wrote s t at next (digits w (fieldAt s at w)) → bitsOf t ≡ bitsOf s
-unfolding bitsAt
-put-take {s} {t} {at} {next} w p =
-    let e : next ≡ at + w = rw digits-length at (p .end) in
-    p .bits ∙ rw (e, digits-field s at w (rw e at (p .room))) (whole (bitsOf s) at w)
+pub take-put : TakePut
+take-put s t at next w v h p = holds-field w v h (wrote-holds p)
 
 -- there is room for one field more
 pub one-more : (w i n : ℕ) → i < n → w * i + w ≤ w * n

@@ -1,19 +1,16 @@
 -- Bits packed into bytes: the bits of the bytes are the bits packed, and no other bytes have them.
-use Prim.Native.Nat.{ℕ, zero, suc, _+_, _-_, _*_, _^_, _≤_, _<_}
+use Prim.Native.Nat.{ℕ, zero, suc, _+_, _-_, _*_, _≤_, _<_}
 use native.Mathlib.Nat.{mul-suc}
 use native.Mathlib.Omega.{arith}
 use mathlib.Core.Path.{_≡_, refl, sym, ap, ap₂, _∙_}
 use mathlib.Core.Bool.{Bool, false}
 use mathlib.Core.List.{List, [], _∷_, _++_}
-use lib.ListN.{length, take, drop, getD, replicate, length-append, length-drop, length-replicate, take-append-drop}
+use lib.ListN.{length, take, drop, replicate, length-append, length-drop, length-replicate, take-append-drop}
 use lib.Seq.{length-take-le, getD-drop, drop-at}
-use Rattle.bits.specs.Bits.{fields, bitsOf, packed, bytesFor, bytesOf, Wrote}
+use Rattle.bits.specs.Bits.{Octets, fields, bitsOf, packed, bytesFor, bytesOf, Wrote}
+use Rattle.bits.specs.Promise.{OneWrite, Packs, OnePack}
 use Rattle.bits.proofs.Digits.{number-lt, digits-number-at}
 use Rattle.bits.proofs.Byte.{bitsOf-length, bitsOf-append, bitsOf-inj}
-
--- every number is a byte
-abbrev pub Octets : List ℕ → Type 0
-Octets s = (i : ℕ) → getD s i 0 < 2 ^ 8
 
 pub packed-length : (n : ℕ) (bs : List Bool) → length (packed n bs) ≡ n
 unfolding packed
@@ -78,3 +75,14 @@ module _ (bs : List Bool) where
       let h : n ≤ length s = rw bytesOf-length (omega (arith, w .room)) in
       bitsOf-inj t (bytesOf bs ++ drop n s) (w .kept ∙ rw (length-append, length-drop) (omega arith)) ot (octets-append (bytesOf bs) (drop n s) bytesOf-octets (octets-drop n s os))
       (w .bits ∙ rw (bitsOf-append (bytesOf bs) (drop n s), bitsOf-bytesOf, bitsOf-drop n s h, bytesOf-length, ← e) refl)
+
+pub packs : Packs
+packs bs = (8 * bytesFor (length bs) - length bs, omega arith, bitsOf-bytesOf bs)
+
+pub one-pack : OnePack
+one-pack = bytes-are
+
+pub one-write : OneWrite
+one-write s t u at m n bs ot ou p q =
+    let e : m ≡ n = p .end ∙ sym (q .end) in
+    (bitsOf-inj t u (p .kept ∙ sym (q .kept)) ot ou (p .bits ∙ rw e (sym (q .bits))), e)

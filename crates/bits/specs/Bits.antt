@@ -1,9 +1,9 @@
 -- The bits of bytes, most significant first; a number as bits and back; and what it is to read or write a run of bits at a place.
 use mathlib.Core.Path.{_≡_}
-use Prim.Native.Nat.{ℕ, zero, suc, _+_, _-_, _*_, _/_, _%_, _^_, _≤_}
+use Prim.Native.Nat.{ℕ, zero, suc, _+_, _-_, _*_, _/_, _%_, _^_, _≤_, _<_}
 use mathlib.Core.Bool.{Bool, true, false}
 use mathlib.Core.List.{List, [], _∷_, _++_}
-use lib.ListN.{length, take, drop, replicate}
+use lib.ListN.{length, take, drop, getD, replicate}
 use lib.Dec.{eqb}
 
 -- the lowest bit of a number, and a bit as a number
@@ -34,6 +34,10 @@ fields w (x ∷ xs) = digits w x ++ fields w xs
 -- all bits of a list of bytes
 unfoldable pub bitsOf : List ℕ → List Bool
 bitsOf s = fields 8 s
+
+-- every number is a byte
+abbrev pub Octets : List ℕ → Type 0
+Octets s = (i : ℕ) → getD s i 0 < 2 ^ 8
 
 -- n bytes of eight bits each
 unfoldable pub packed : ℕ → List Bool → List ℕ

@@ -10,3 +10,4 @@ pub mod Judge
 pub mod Verdicts
 pub mod Codes
 pub mod Whole
+pub mod Unique

@@ -8,7 +8,8 @@ use mathlib.Core.Option.{Option, none, some}
 use mathlib.Core.List.{List}
 use lib.ListN.{length}
 use Rattle.bits.specs.Bits.{bytesFor, bytesOf}
-use Rattle.bits.proofs.Packed.{Octets, bytesOf-length, bytesOf-octets, bitsOf-bytesOf, bytes-are}
+use Rattle.bits.specs.Bits.{Octets}
+use Rattle.bits.proofs.Packed.{bytesOf-length, bytesOf-octets, bitsOf-bytesOf, bytes-are}
 use Rattle.meaning.specs.Says.{Says, aye, nay}
 use Rattle.meaning.specs.Bytes.{Bytes, sameBytes}
 use Rattle.meaning.specs.Reply.{Reply}

@@ -9,7 +9,7 @@ use native.Mathlib.Decide.{decLt}
 use lib.ListN.{length, replicate}
 use Rattle.bits.specs.Bits.{Holds}
 use Rattle.bits.proofs.Laws.{field-lt}
-use Rattle.bits.proofs.Packed.{Octets}
+use Rattle.bits.specs.Bits.{Octets}
 use Rattle.reply.specs.WellFormed.{vars}
 use Rattle.reply.specs.Read.{endOf, vTo, insOf, stepsOf, entriesOf, read}
 use Rattle.reply.specs.Places.{StepGood, RefGood, InGood, Sound, varsOf}

@@ -7,7 +7,8 @@ use mathlib.Core.List.{List, _++_, append-assoc}
 use lib.ListN.{length, replicate}
 use Rattle.bits.specs.Bits.{digits, bytesFor, Wrote}
 use Rattle.bits.proofs.Laws.{wrote-append}
-use Rattle.bits.proofs.Packed.{Octets, bytesOf-length, written}
+use Rattle.bits.specs.Bits.{Octets}
+use Rattle.bits.proofs.Packed.{bytesOf-length, written}
 use Rattle.meaning.specs.Reply.{Reply}
 use Rattle.reply.specs.Write.{refBits, stepBits, each, headBits, replyBits, write}
 use Rattle.reply.specs.Read.{endOf}

@@ -9,6 +9,10 @@ use Rattle.meaning.specs.Bytes.{Bytes}
 use Rattle.meaning.specs.Reply.{Reply}
 use Rattle.reply.specs.Write.{write}
 use Rattle.reply.specs.WellFormed.{WellFormed, Fits}
+use Rattle.reply.specs.Post.{verdict, HeadIs, InIs, RefIs, StepIs, Written}
+use Rattle.reply.specs.declared.Head.{Head}
+use Rattle.reply.specs.declared.RefField.{RefField}
+use Rattle.reply.specs.declared.StepField.{StepField}
 use Rattle.reply.specs.Read.{wellFormed, fits, read, Is, size}
 
 -- the tests that `read` makes say what `WellFormed` and `Fits` say
@@ -38,3 +42,22 @@ MostBytes = (r : Reply) → WellFormed r → length (write 12 r) ≤ 15_499
 abbrev pub SizeIs : Type 0
 SizeIs = (w : ℕ) (r : Reply) → length (r .v) ≡ r .entries → length (r .d) ≡ r .entries
     → length (write w r) ≡ size w (length (r .ins)) (length (r .steps)) (r .entries)
+
+-- ---- any two results that a contract allows are equal (a cursor's writes: `OneWrite` of crate bits)
+abbrev pub OneVerdict : Type 0
+OneVerdict = (s : Bytes) (a b : ℕ) → a ≡ verdict (read 12 s) → b ≡ verdict (read 12 s) → a ≡ b
+
+abbrev pub OneWritten : Type 0
+OneWritten = (w : ℕ) (r : Reply) (old a b : Bytes) (m n : ℕ) → Written w r old a m → Written w r old b n → (a ≡ b) × (m ≡ n)
+
+abbrev pub OneHead : Type 0
+OneHead = (s : Bytes) (a b : Head) → HeadIs s a → HeadIs s b → a ≡ b
+
+abbrev pub OneIn : Type 0
+OneIn = (s : Bytes) (i a b : ℕ) → InIs s i a → InIs s i b → a ≡ b
+
+abbrev pub OneRef : Type 0
+OneRef = (w : ℕ) (s : Bytes) (at : ℕ) (a b : RefField) → RefIs w s at a → RefIs w s at b → a ≡ b
+
+abbrev pub OneStep : Type 0
+OneStep = (w : ℕ) (s : Bytes) (at : ℕ) (a b : StepField) → StepIs w s at a → StepIs w s at b → a ≡ b

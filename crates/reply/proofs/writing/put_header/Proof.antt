@@ -1,4 +1,5 @@
 -- `reply::writing::put_header` meets its contract.
+use mathlib.Core.Path.{refl}
 use native.Mathlib.Omega.{arith}
 use Rattle.bits.proofs.Laws.{wrote-append}
 use Rattle.reply.specs.Write.{headBits}
@@ -10,7 +11,7 @@ put-requires : tie.Need-put-requires
 put-requires c κs = search needs
 
 put-requires-2 : tie.Need-put-requires-2
-put-requires-2 c κs = search needs
+put-requires-2 c κs = omega (arith, c .before .before .before .before .before .before .pre, c .before .before .before .put .ensures .1, c .before .before .before .put .ensures .0 .kept)
 
 sub-put : tie.Need-sub-put
 sub-put c = search needs
@@ -19,22 +20,22 @@ cast-put : tie.Need-cast-put
 cast-put c = search needs
 
 put-requires-3 : tie.Need-put-requires-3
-put-requires-3 c κs = search needs
+put-requires-3 c κs = omega (arith, c .before .before .before .before .before .before .before .before .before .before .pre, c .before .before .before .before .before .before .before .put .ensures .1, c .before .before .before .before .before .before .before .put .ensures .0 .kept, c .before .before .before .put2 .ensures .1, c .before .before .before .put2 .ensures .0 .kept)
 
 cast-put-2 : tie.Need-cast-put-2
 cast-put-2 c = search needs
 
 put-requires-4 : tie.Need-put-requires-4
-put-requires-4 c κs = search needs
+put-requires-4 c κs = omega (arith, c .before .before .before .before .before .before .before .before .before .before .before .before .before .before .pre, c .before .before .before .before .before .before .before .before .before .before .before .put .ensures .1, c .before .before .before .before .before .before .before .before .before .before .before .put .ensures .0 .kept, c .before .before .before .before .before .before .before .put2 .ensures .1, c .before .before .before .before .before .before .before .put2 .ensures .0 .kept, c .before .before .before .put3 .ensures .1, c .before .before .before .put3 .ensures .0 .kept)
 
 cast-put-3 : tie.Need-cast-put-3
 cast-put-3 c = search needs
 
 put-requires-5 : tie.Need-put-requires-5
-put-requires-5 c κs = search needs
+put-requires-5 c κs = omega (arith, c .before .before .before .before .before .before .before .before .before .before .before .before .before .before .before .before .before .before .pre, c .before .before .before .before .before .before .before .before .before .before .before .before .before .before .before .put .ensures .1, c .before .before .before .before .before .before .before .before .before .before .before .before .before .before .before .put .ensures .0 .kept, c .before .before .before .before .before .before .before .before .before .before .before .put2 .ensures .1, c .before .before .before .before .before .before .before .before .before .before .before .put2 .ensures .0 .kept, c .before .before .before .before .before .before .before .put3 .ensures .1, c .before .before .before .before .before .before .before .put3 .ensures .0 .kept, c .before .before .before .put4 .ensures .1, c .before .before .before .put4 .ensures .0 .kept)
 
 same-length : tie.Need-same-length
-same-length c = search needs
+same-length c = rw (c .before .before .put5 .ensures .0 .kept, c .before .before .before .before .before .before .put4 .ensures .0 .kept, c .before .before .before .before .before .before .before .before .before .before .put3 .ensures .0 .kept, c .before .before .before .before .before .before .before .before .before .before .before .before .before .before .put2 .ensures .0 .kept, c .before .before .before .before .before .before .before .before .before .before .before .before .before .before .before .before .before .before .put .ensures .0 .kept) refl
 
 returns : tie.Need-returns
 unfolding headBits
