@@ -15,7 +15,9 @@ use Rattle.meaning.specs.Fragment.{num, rowCount, rowsOf}
 use Rattle.meaning.specs.Reply.{standIns}
 use Rattle.reply.specs.Write.{refBits, stepBits, each}
 use Rattle.reply.specs.Read.{refWidth, stepWidth, refFrom, stepFrom}
-use Rattle.reply.specs.Codes.{refOf, stepOf, refsAt, stepsAt, RefCode, bare, rowIn, rowIns}
+use Rattle.reply.specs.WellFormed.{Result}
+use Rattle.reply.specs.Promise.{CodeRef}
+use Rattle.reply.specs.Codes.{refOf, codeOf, stepOf, refsAt, stepsAt, RefCode, bare, rowIn, rowIns}
 use Rattle.reply.proofs.Lists.{each-none, each-more}
 
 -- ---- a reference's code, and a step's
@@ -44,6 +46,28 @@ code-none = refl
 
 pub step-code : (w op left right : ℕ) → op < 3 → (op ≡ 2 → right ≡ 0) → digits 2 op ++ (refBits w (refOf left) ++ refBits w (refOf right)) ≡ stepBits w (stepFrom op (refOf left) (refOf right))
 step-code w op left right h z = ops w op (refOf left) (refOf right) h (λ e. ap refOf (z e) ∙ code-none)
+
+-- ---- the code of a reference
+code-at : (k x : ℕ) → x < 4096 → refOf (k * 4096 + x) ≡ refFrom k x
+unfolding refOf
+code-at k x h =
+    let q : (k * 4096 + x) / 4096 ≡ k = omega arith in
+    let m : (k * 4096 + x) % 4096 ≡ x = omega arith in
+    rw (q, m) refl
+
+pub code-ref : CodeRef
+unfolding codeOf refFrom
+code-ref n m Ref.low hn hm h = code-at 0 0 (omega arith)
+code-ref n m Ref.high hn hm h = code-at 1 0 (omega arith)
+code-ref n m (Ref.var x) hn hm h = code-at 2 x (omega arith)
+code-ref n m (Ref.step i) hn hm h = code-at 3 i (omega arith)
+
+pub code-fine : (n m : ℕ) (r : Ref) → n ≤ 4096 → m ≤ 4096 → Result n m r → RefCode 12 (codeOf r)
+unfolding codeOf
+code-fine n m Ref.low hn hm h = record { kind = omega arith; plain = λ l. refl; fits = omega arith }
+code-fine n m Ref.high hn hm h = record { kind = omega arith; plain = λ l. refl; fits = omega arith }
+code-fine n m (Ref.var x) hn hm h = record { kind = omega arith; plain = λ l. omega arith; fits = omega arith }
+code-fine n m (Ref.step i) hn hm h = record { kind = omega arith; plain = λ l. omega arith; fits = omega arith }
 
 -- ---- a loop over codes: one turn
 module _ (w : ℕ) (work : List ℕ) (from : ℕ) where

@@ -1,7 +1,6 @@
 -- The tests that `read` makes say what `WellFormed` and `Fits` say.
-use Prim.Native.Nat.{ℕ, _*_, _^_, _≤_, _<_}
+use Prim.Native.Nat.{ℕ, _^_, _≤_, _<_}
 use mathlib.Core.Path.{_≡_}
-use mathlib.Core.Bool.{Bool}
 use lib.ListN.{length, getD}
 use Rattle.meaning.specs.Says.{Says, aye, nay}
 use Rattle.meaning.specs.Formula.{Ref, Step}

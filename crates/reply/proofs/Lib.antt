@@ -11,3 +11,4 @@ pub mod Verdicts
 pub mod Codes
 pub mod Whole
 pub mod Unique
+pub mod Rows

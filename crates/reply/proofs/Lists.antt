@@ -8,7 +8,7 @@ use mathlib.Core.Bool.{Bool}
 use mathlib.Core.List.{List, [], _∷_, _++_, append-assoc, append-nil}
 use lib.ListN.{length, getD, length-append}
 use lib.Seq.{ext-getD}
-use Rattle.bits.specs.Bits.{Holds, Wrote}
+use Rattle.bits.specs.Bits.{Holds}
 use Rattle.bits.proofs.Laws.{holds-none, holds-append, holds-split}
 use Rattle.meaning.specs.Reply.{tabulated}
 use Rattle.meaning.proofs.Reply.{tabulated-at}

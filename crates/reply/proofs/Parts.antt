@@ -1,5 +1,5 @@
 -- A reply that bytes are is the decoded one, and passes what the check tests.
-use Prim.Native.Nat.{ℕ, _+_, _-_, _*_, _≤_, _<_}
+use Prim.Native.Nat.{ℕ, _+_, _-_, _*_, _<_}
 use native.Mathlib.Omega.{arith}
 use mathlib.Core.Path.{_≡_, refl, sym, _∙_}
 use mathlib.Core.Bool.{false}
@@ -16,7 +16,7 @@ use Rattle.reply.specs.Read.{refWidth, stepWidth, refAt, stepAt, insTo, 
 use Rattle.reply.specs.Places.{RefGood, StepGood, Sound}
 use Rattle.reply.proofs.Lists.{tab-is, each-length, each-at}
 use Rattle.reply.proofs.Fields.{ref-length, ref-out, step-length, step-out}
-use Rattle.reply.proofs.Sound.{Writes, stepG, vG, dG}
+use Rattle.reply.proofs.Sound.{Writes}
 
 pub record Parts (w : ℕ) (s : List ℕ) (r : Reply) : Type 0 where
   pub number-at : Holds s 0 32 (digits 32 (r .number))
@@ -108,25 +108,25 @@ module _ (w : ℕ) (s : List ℕ) (r : Reply) (g : WellFormed r) (x : Fits w r) 
   p : Parts w s r
   p = to-parts w s r g q
 
-  number-read : numberOf s ≡ r .number
+  pub number-read : numberOf s ≡ r .number
   number-read = holds-field 32 (r .number) (g .number-fits) (p .number-at)
 
-  fragment-read : fragmentOf s ≡ r .fragment
+  pub fragment-read : fragmentOf s ≡ r .fragment
   fragment-read = holds-field 5 (r .fragment) (g .fragment-fits) (p .fragment-at)
 
-  entries-read : entriesOf s ≡ r .entries
+  pub entries-read : entriesOf s ≡ r .entries
   entries-read = let e = holds-field 5 (r .entries - 1) (omega (arith, g .few-entries, g .some-entry)) (p .entries-at) in omega (arith, e, g .some-entry)
 
-  ins-read : insOf s ≡ length (r .ins)
+  pub ins-read : insOf s ≡ length (r .ins)
   ins-read = holds-field 5 (length (r .ins)) (g .few-ins) (p .ins-count)
 
-  steps-read : stepsOf s ≡ length (r .steps)
+  pub steps-read : stepsOf s ≡ length (r .steps)
   steps-read = holds-field 13 (length (r .steps)) (omega (arith, g .few-steps)) (p .steps-count)
 
-  in-read : (i : ℕ) → i < length (r .ins) → inAt s i ≡ getD (r .ins) i 0
+  pub in-read : (i : ℕ) → i < length (r .ins) → inAt s i ≡ getD (r .ins) i 0
   in-read i l = holds-field 5 (getD (r .ins) i 0) (g .ins-fit i l .1) (each-at 5 (digits 5) (digits-length 5) s 0 (r .ins) 60 (insTo (length (r .ins))) (p .ins-at) i l)
 
-  step-read : (i : ℕ) → i < length (r .steps) → StepGood w s (vars (r .entries) (length (r .ins))) i (insTo (length (r .ins)) + stepWidth w * i)
+  pub step-read : (i : ℕ) → i < length (r .steps) → StepGood w s (vars (r .entries) (length (r .ins))) i (insTo (length (r .ins)) + stepWidth w * i)
       × (stepAt w s (insTo (length (r .ins)) + stepWidth w * i) ≡ getD (r .steps) i (Step.not Ref.low))
   step-read i l =
       let a = insTo (length (r .ins)) in
@@ -140,11 +140,11 @@ module _ (w : ℕ) (s : List ℕ) (r : Reply) (g : WellFormed r) (x : Fits w r) 
       ref-out w (vars (r .entries) (length (r .ins))) (length (r .steps)) s (a + refWidth w * e) (a + refWidth w * e + refWidth w) (x .vars-fit) (x .steps-fit) (getD l e Ref.low)
       (each-at (refWidth w) (refBits w) (ref-length w) s Ref.low l a b h e (rw all y)) (good e y)
 
-  v-read : (e : ℕ) → e < r .entries → RefGood w s (vars (r .entries) (length (r .ins))) (length (r .steps)) (stepsTo w (length (r .ins)) (length (r .steps)) + refWidth w * e)
+  pub v-read : (e : ℕ) → e < r .entries → RefGood w s (vars (r .entries) (length (r .ins))) (length (r .steps)) (stepsTo w (length (r .ins)) (length (r .steps)) + refWidth w * e)
       × (refAt w s (stepsTo w (length (r .ins)) (length (r .steps)) + refWidth w * e) ≡ getD (r .v) e Ref.low)
   v-read = ref-read (stepsTo w (length (r .ins)) (length (r .steps))) (vTo w (length (r .ins)) (length (r .steps)) (r .entries)) (r .v) (g .v-all) (p .v-at) (g .v-good)
 
-  d-read : (e : ℕ) → e < r .entries → RefGood w s (vars (r .entries) (length (r .ins))) (length (r .steps)) (vTo w (length (r .ins)) (length (r .steps)) (r .entries) + refWidth w * e)
+  pub d-read : (e : ℕ) → e < r .entries → RefGood w s (vars (r .entries) (length (r .ins))) (length (r .steps)) (vTo w (length (r .ins)) (length (r .steps)) (r .entries) + refWidth w * e)
       × (refAt w s (vTo w (length (r .ins)) (length (r .steps)) (r .entries) + refWidth w * e) ≡ getD (r .d) e Ref.low)
   d-read = ref-read (vTo w (length (r .ins)) (length (r .steps)) (r .entries)) (endOf w (length (r .ins)) (length (r .steps)) (r .entries)) (r .d) (g .d-all) (p .d-at) (g .d-good)
 

@@ -1,28 +1,28 @@
 -- Writing and reading are each other's inverse: bytes are read as a reply exactly if they are sound, and then it is the decoded one.
-use Prim.Native.Nat.{ℕ, _+_, _-_, _*_, _/_, _^_, _≤_, _<_}
+use Prim.Native.Nat.{ℕ, _+_, _-_, _*_, _≤_, _<_}
 use native.Mathlib.Nat.{mul-le-mul, mul-assoc}
 use native.Mathlib.Omega.{arith}
-use mathlib.Core.Path.{_≡_, refl, sym, ap, _∙_, subst}
-use mathlib.Core.Bool.{Bool, true, false, _&&_, cond}
-use mathlib.Core.Option.{Option, none, some}
-use mathlib.Core.List.{List}
-use lib.ListN.{length}
-use Rattle.bits.specs.Bits.{bytesFor, bytesOf}
+use mathlib.Core.Path.{_≡_, refl, sym, _∙_, subst}
+use mathlib.Core.Bool.{Bool, _&&_, cond}
+use mathlib.Core.Option.{none, some}
+use lib.ListN.{length, getD}
+use Rattle.bits.specs.Bits.{bytesFor}
 use Rattle.bits.specs.Bits.{Octets}
-use Rattle.bits.proofs.Packed.{bytesOf-length, bytesOf-octets, bitsOf-bytesOf, bytes-are}
+use Rattle.bits.proofs.Packed.{bytesOf-length, bitsOf-bytesOf, bytes-are}
 use Rattle.meaning.specs.Says.{Says, aye, nay}
 use Rattle.meaning.specs.Bytes.{Bytes, sameBytes}
+use Rattle.meaning.specs.Formula.{Ref, Step}
 use Rattle.meaning.specs.Reply.{Reply}
-use Rattle.meaning.proofs.Says.{says-iff, says-and, says-true, says-false}
+use Rattle.meaning.proofs.Says.{says-iff, says-and}
 use Rattle.reply.specs.Write.{replyBits, write}
 use Rattle.reply.specs.WellFormed.{vars, WellFormed, Fits}
-use Rattle.reply.specs.Read.{decoded, wellFormed, fits, read, Is}
+use Rattle.reply.specs.Read.{refWidth, stepWidth, insTo, stepsTo, vTo, numberOf, fragmentOf, entriesOf, insOf, stepsOf, inAt, refAt, stepAt, decoded, wellFormed, fits, read, Is}
 use Rattle.reply.specs.Places.{Sound}
 use Rattle.reply.specs.Promise.{WriteRead, ReadWrite, OneReply, Fits12, MostBytes, SizeIs}
 use Rattle.reply.proofs.Tests.{says-same-bytes}
 use Rattle.reply.proofs.Judged.{says-formed, says-fits}
 use Rattle.reply.proofs.Sound.{Writes, sound-formed, sound-writes}
-use Rattle.reply.proofs.Parts.{bits-length, is-decoded, is-sound}
+use Rattle.reply.proofs.Parts.{bits-length, is-decoded, is-sound, number-read, fragment-read, entries-read, ins-read, steps-read, in-read, step-read, v-read, d-read}
 
 -- ---- bytes and bits
 pub writes-bits : (w : ℕ) (r : Reply) (s : Bytes) → write w r ≡ s → Writes w r s
@@ -78,6 +78,35 @@ module _ (w : ℕ) (s : Bytes) where
 
   pub some-is : (r : Reply) → Is w s r → read w s ≡ some r
   some-is r i = let e = is-the r i in rw e (is-read (subst (Is w s) e i))
+
+-- what is read at each place of bytes that are the reply r
+pub record Fields (w : ℕ) (s : Bytes) (r : Reply) : Type 0 where
+  pub number-is : numberOf s ≡ r .number
+  pub fragment-is : fragmentOf s ≡ r .fragment
+  pub entries-is : entriesOf s ≡ r .entries
+  pub ins-are : insOf s ≡ length (r .ins)
+  pub steps-are : stepsOf s ≡ length (r .steps)
+  pub in-is : (i : ℕ) → i < length (r .ins) → inAt s i ≡ getD (r .ins) i 0
+  pub step-is : (i : ℕ) → i < length (r .steps) → stepAt w s (insTo (length (r .ins)) + stepWidth w * i) ≡ getD (r .steps) i (Step.not Ref.low)
+  pub v-is : (e : ℕ) → e < r .entries → refAt w s (stepsTo w (length (r .ins)) (length (r .steps)) + refWidth w * e) ≡ getD (r .v) e Ref.low
+  pub d-is : (e : ℕ) → e < r .entries → refAt w s (vTo w (length (r .ins)) (length (r .steps)) (r .entries) + refWidth w * e) ≡ getD (r .d) e Ref.low
+
+pub fields-of : (w : ℕ) (s : Bytes) (r : Reply) → Is w s r → Fields w s r
+fields-of w s r i =
+    let g = i .formed in
+    let x = i .fits in
+    let q = writes-bits w r s (i .writes) in
+    record {
+      number-is = number-read w s r g x q;
+      fragment-is = fragment-read w s r g x q;
+      entries-is = entries-read w s r g x q;
+      ins-are = ins-read w s r g x q;
+      steps-are = steps-read w s r g x q;
+      in-is = in-read w s r g x q;
+      step-is = λ j l. step-read w s r g x q j l .1;
+      v-is = λ e l. v-read w s r g x q e l .1;
+      d-is = λ e l. d-read w s r g x q e l .1;
+    }
 
 -- ---- the promises
 pub write-read : WriteRead

@@ -1,15 +1,15 @@
 -- Bytes that pass what the check tests are a well-formed reply, the decoded one.
 use Prim.Native.Nat.{ℕ, _+_, _-_, _*_, _≤_, _<_}
 use native.Mathlib.Omega.{arith}
-use mathlib.Core.Path.{_≡_, refl, sym, _∙_}
+use mathlib.Core.Path.{_≡_, refl}
 use mathlib.Core.Bool.{false}
-use mathlib.Core.List.{List, _++_, append-assoc}
+use mathlib.Core.List.{List, _++_}
 use lib.ListN.{length, replicate}
 use Rattle.bits.specs.Bits.{digits, bitsOf, fieldAt, Holds}
 use Rattle.bits.proofs.Laws.{field-holds, field-lt, holds-append, holds-whole, one-more}
 use Rattle.meaning.specs.Formula.{Ref, Step}
 use Rattle.meaning.specs.Reply.{Reply, tabulated}
-use Rattle.reply.specs.Write.{refBits, stepBits, each, headBits, replyBits}
+use Rattle.reply.specs.Write.{refBits, stepBits, headBits, replyBits}
 use Rattle.reply.specs.WellFormed.{Result, Operands, WellFormed}
 use Rattle.reply.specs.Read.{refWidth, stepWidth, refAt, stepAt, insTo, stepsTo, vTo, endOf, inAt, insOf, stepsOf, entriesOf, decoded}
 use Rattle.reply.specs.Places.{RefGood, varsOf, Sound}

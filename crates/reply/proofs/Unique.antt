@@ -1,7 +1,6 @@
 -- Any two results that a contract allows are equal.
 use Prim.Native.Nat.{ℕ}
-use mathlib.Core.Path.{_≡_, refl, sym, ap, _∙_}
-use Rattle.reply.specs.Post.{HeadIs, InIs, RefIs, StepIs, Written}
+use mathlib.Core.Path.{_≡_, refl, sym, _∙_}
 use Rattle.reply.specs.Promise.{OneVerdict, OneWritten, OneHead, OneIn, OneRef, OneStep}
 use Rattle.reply.specs.declared.Head.{Head}
 use Rattle.reply.specs.declared.RefField.{RefField}

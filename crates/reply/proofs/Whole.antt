@@ -1,18 +1,18 @@
 -- What `reply_write` has written, on plain values: three writes, one after the other, are the reply's bytes.
 use Prim.Native.Nat.{ℕ, _+_, _-_, _*_, _/_}
 use native.Mathlib.Omega.{arith}
-use mathlib.Core.Path.{_≡_, refl, sym, ap, _∙_}
+use mathlib.Core.Path.{_≡_, refl, sym, _∙_}
 use mathlib.Core.Bool.{false}
 use mathlib.Core.List.{List, _++_, append-assoc}
 use lib.ListN.{length, replicate}
-use Rattle.bits.specs.Bits.{digits, bytesFor, Wrote}
+use Rattle.bits.specs.Bits.{digits, Wrote}
 use Rattle.bits.proofs.Laws.{wrote-append}
 use Rattle.bits.specs.Bits.{Octets}
 use Rattle.bits.proofs.Packed.{bytesOf-length, written}
 use Rattle.meaning.specs.Reply.{Reply}
 use Rattle.reply.specs.Write.{refBits, stepBits, each, headBits, replyBits, write}
 use Rattle.reply.specs.Read.{endOf}
-use Rattle.reply.specs.Codes.{refOf, stepOf, refsAt, stepsAt, rowIns, replyIn}
+use Rattle.reply.specs.Codes.{refsAt, stepsAt, rowIns, replyIn}
 use Rattle.reply.specs.Post.{Written}
 use Rattle.reply.proofs.Lists.{tab-length}
 use Rattle.reply.proofs.Parts.{bits-length}

@@ -14,6 +14,13 @@ use Rattle.reply.specs.Read.{refFrom, stepFrom}
 unfoldable pub refOf : ℕ → Ref
 refOf code = refFrom (code / 4096) (code % 4096)
 
+-- the code of a reference
+unfoldable pub codeOf : Ref → ℕ
+codeOf Ref.low = 0
+codeOf Ref.high = 4096
+codeOf (Ref.var x) = 8192 + x
+codeOf (Ref.step i) = 12288 + i
+
 unfoldable pub stepOf : List ℕ → ℕ → Step
 stepOf work p = stepFrom (getD work p 0) (refOf (getD work (p + 1) 0)) (refOf (getD work (p + 2) 0))
 

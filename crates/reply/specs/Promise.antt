@@ -6,9 +6,11 @@ use lib.ListN.{length}
 use Rattle.bits.specs.Bits.{bytesFor}
 use Rattle.meaning.specs.Says.{Says}
 use Rattle.meaning.specs.Bytes.{Bytes}
+use Rattle.meaning.specs.Formula.{Ref}
 use Rattle.meaning.specs.Reply.{Reply}
 use Rattle.reply.specs.Write.{write}
-use Rattle.reply.specs.WellFormed.{WellFormed, Fits}
+use Rattle.reply.specs.WellFormed.{Result, WellFormed, Fits}
+use Rattle.reply.specs.Codes.{refOf, codeOf}
 use Rattle.reply.specs.Post.{verdict, HeadIs, InIs, RefIs, StepIs, Written}
 use Rattle.reply.specs.declared.Head.{Head}
 use Rattle.reply.specs.declared.RefField.{RefField}
@@ -42,6 +44,10 @@ MostBytes = (r : Reply) → WellFormed r → length (write 12 r) ≤ 15_499
 abbrev pub SizeIs : Type 0
 SizeIs = (w : ℕ) (r : Reply) → length (r .v) ≡ r .entries → length (r .d) ≡ r .entries
     → length (write w r) ≡ size w (length (r .ins)) (length (r .steps)) (r .entries)
+
+-- a reference is what its code stands for
+abbrev pub CodeRef : Type 0
+CodeRef = (n m : ℕ) (r : Ref) → n ≤ 4096 → m ≤ 4096 → Result n m r → refOf (codeOf r) ≡ r
 
 -- ---- any two results that a contract allows are equal (a cursor's writes: `OneWrite` of crate bits)
 abbrev pub OneVerdict : Type 0
