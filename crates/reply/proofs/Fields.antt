@@ -13,7 +13,7 @@ use Rattle.meaning.specs.Formula.{Ref, Step}
 use Rattle.reply.specs.Write.{refBits, stepBits}
 use Rattle.reply.specs.WellFormed.{Result, Operand, Operands}
 use Rattle.reply.specs.Read.{refFrom, stepFrom, refWidth, stepWidth, refAt, stepAt}
-use Rattle.reply.specs.Places.{RefOk, OperandOk, StepOk, RefGood, StepGood}
+use Rattle.reply.specs.Sound.{RefOk, OperandOk, StepOk, RefGood, StepGood}
 
 -- ---- a reference
 

@@ -15,7 +15,7 @@ use Rattle.bits.proofs.Laws.{field-lt, one-more}
 use Rattle.meaning.specs.Says.{Says}
 use Rattle.meaning.proofs.Says.{says-iff}
 use Rattle.reply.specs.Read.{refWidth, stepWidth, inAt}
-use Rattle.reply.specs.Places.{RefOk, OperandOk, StepOk, StepGood, RefGood, InGood}
+use Rattle.reply.specs.Sound.{RefOk, OperandOk, StepOk, StepGood, RefGood, InGood}
 use Rattle.reply.proofs.Lists.{up-to-suc}
 use Rattle.reply.specs.Post.{HeadIs, RefIs, StepIs}
 use Rattle.reply.specs.declared.Head.{Head}

@@ -12,3 +12,4 @@ pub mod Codes
 pub mod Whole
 pub mod Unique
 pub mod Rows
+pub mod Laid

@@ -17,7 +17,7 @@ use Rattle.meaning.proofs.Says.{says-iff, says-and}
 use Rattle.reply.specs.Write.{replyBits, write}
 use Rattle.reply.specs.WellFormed.{vars, WellFormed, Fits}
 use Rattle.reply.specs.Read.{refWidth, stepWidth, insTo, stepsTo, vTo, numberOf, fragmentOf, entriesOf, insOf, stepsOf, inAt, refAt, stepAt, decoded, wellFormed, fits, read, Is}
-use Rattle.reply.specs.Places.{Sound}
+use Rattle.reply.specs.Sound.{Sound}
 use Rattle.reply.specs.Promise.{WriteRead, ReadWrite, OneReply, Fits12, MostBytes, SizeIs}
 use Rattle.reply.proofs.Tests.{says-same-bytes}
 use Rattle.reply.proofs.Judged.{says-formed, says-fits}

@@ -8,7 +8,7 @@ use Rattle.bits.specs.Bits.{fieldAt}
 use Rattle.meaning.specs.Bytes.{Bytes}
 use Rattle.meaning.specs.Reply.{Reply}
 use Rattle.reply.specs.Write.{write}
-use Rattle.reply.specs.Read.{refWidth, stepWidth, numberOf, fragmentOf, entriesOf, insOf, stepsOf, inAt}
+use Rattle.reply.specs.Read.{refWidth, numberOf, fragmentOf, entriesOf, insOf, stepsOf, inAt}
 use Rattle.reply.specs.declared.Head.{Head}
 use Rattle.reply.specs.declared.RefField.{RefField}
 use Rattle.reply.specs.declared.StepField.{StepField}

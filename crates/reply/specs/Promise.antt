@@ -1,13 +1,15 @@
 -- WHAT IS PROVED OF THESE DEFINITIONS: each promise is a type, and proofs/ has an element of it under its name (`write-read` of `WriteRead`).
-use Prim.Native.Nat.{ℕ, _+_, _≤_}
+use Prim.Native.Nat.{ℕ, _^_, _≤_, _<_}
 use mathlib.Core.Path.{_≡_}
 use mathlib.Core.Option.{some}
+use mathlib.Core.List.{List}
 use lib.ListN.{length}
-use Rattle.bits.specs.Bits.{bytesFor}
 use Rattle.meaning.specs.Says.{Says}
 use Rattle.meaning.specs.Bytes.{Bytes}
 use Rattle.meaning.specs.Formula.{Ref}
-use Rattle.meaning.specs.Reply.{Reply}
+use Rattle.meaning.specs.Entry.{Entry}
+use Rattle.meaning.specs.Fragment.{Fragment, Sound, rowsOf}
+use Rattle.meaning.specs.Reply.{Reply, laidDown}
 use Rattle.reply.specs.Write.{write}
 use Rattle.reply.specs.WellFormed.{Result, WellFormed, Fits}
 use Rattle.reply.specs.Codes.{refOf, codeOf}
@@ -44,6 +46,11 @@ MostBytes = (r : Reply) → WellFormed r → length (write 12 r) ≤ 15_499
 abbrev pub SizeIs : Type 0
 SizeIs = (w : ℕ) (r : Reply) → length (r .v) ≡ r .entries → length (r .d) ≡ r .entries
     → length (write w r) ≡ size w (length (r .ins)) (length (r .steps)) (r .entries)
+
+-- the reply laid down for a sound fragment is well formed, where it has at most 4,096 steps
+abbrev pub LaidFormed : Type 0
+LaidFormed = (number f : ℕ) (F : Fragment) → Sound f F → (es : List (Entry Bytes)) → 0 < length es → length es ≤ 32 → 0 < number → number < 2 ^ 32
+    → length (laidDown (rowsOf F) es number f .steps) ≤ 4096 → WellFormed (laidDown (rowsOf F) es number f)
 
 -- a reference is what its code stands for
 abbrev pub CodeRef : Type 0

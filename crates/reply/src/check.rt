@@ -11,7 +11,7 @@ ghost use Prim.Native.Nat.{_+_, _*_, _^_, _≤_, _<_};
 ghost use lib.ListN.{length};
 ghost use Rattle.meaning.specs.Says.{Says};
 ghost use Rattle.reply.specs.Read.{refWidth, stepWidth, insTo, read};
-ghost use Rattle.reply.specs.Places.{RefOk, OperandOk, StepOk, RefGood, StepGood, InGood};
+ghost use Rattle.reply.specs.Sound.{RefOk, OperandOk, StepOk, RefGood, StepGood, InGood};
 ghost use Rattle.reply.specs.Post.{verdict};
 
 fn ref_ok(kind: u32, number: usize, vars: usize, steps: usize) -> bool
@@ -116,17 +116,17 @@ fn refs_ok(s: &[u8], w: usize, at: usize, count: usize, vars: usize, steps: usiz
 
 // 0 if the bytes are a reply, else 13.
 #[no_mangle]
-pub extern "C" fn reply_check(s: &[u8]) -> u8
-    ensures { λ r. ⌜ r ≡ verdict (read 12 (now (s .entry))) ⌝ }
+pub extern "C" fn reply_check(bytes: &[u8]) -> u8
+    ensures { λ r. ⌜ r ≡ verdict (read 12 (now (bytes .entry))) ⌝ }
 {
-    let size = s.len();
+    let size = bytes.len();
     if size < 8 {
         return 13;
     }
     if 15499 < size {
         return 13;
     }
-    let h = header(s);
+    let h = header(bytes);
     let k = h.ins;
     let m = h.steps;
     let n = h.entries;
@@ -143,15 +143,15 @@ pub extern "C" fn reply_check(s: &[u8]) -> u8
     if (end + 7) / 8 != size {
         return 13;
     }
-    if !ins_ok(s, h.fragment, k) {
+    if !ins_ok(bytes, h.fragment, k) {
         return 13;
     }
-    if !steps_ok(s, 12, a, m, vars) {
+    if !steps_ok(bytes, 12, a, m, vars) {
         return 13;
     }
-    if !refs_ok(s, 12, b, 2 * n, vars, m) {
+    if !refs_ok(bytes, 12, b, 2 * n, vars, m) {
         return 13;
     }
     let c = Cursor { at: end };
-    if c.blank(s, 8 * size) { 0 } else { 13 }
+    if c.blank(bytes, 8 * size) { 0 } else { 13 }
 }

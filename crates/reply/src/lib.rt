@@ -4,7 +4,6 @@ pub mod check;
 pub mod writing;
 
 use bits::Cursor;
-ghost use mathlib.Core.Path.{_≡_};
 ghost use Prim.Native.Nat.{_+_, _*_, _^_, _≤_, _<_};
 ghost use lib.ListN.{length};
 ghost use Rattle.reply.specs.Read.{refWidth, stepWidth, insTo};

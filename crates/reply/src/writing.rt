@@ -1,4 +1,5 @@
 // Writing a reply from a depot's memory into a lent buffer: every bit past what is written stays as it was.
+use crate::HEAD_TO;
 use bits::Cursor;
 ghost use mathlib.Core.Path.{_≡_};
 ghost use mathlib.Core.List.{_++_};
@@ -17,7 +18,7 @@ pub fn reply_size(w: usize, entries: usize, ins: usize, steps: usize) -> usize
     ensures { λ r. ⌜ r ≡ size w ins steps entries ⌝ }
 {
     let wide = 2 + w;
-    (60 + 5 * ins + (2 + (wide + wide)) * steps + wide * entries + wide * entries + 7) / 8
+    (HEAD_TO + 5 * ins + (2 + (wide + wide)) * steps + wide * entries + wide * entries + 7) / 8
 }
 
 // How many stand-ins the rows have.

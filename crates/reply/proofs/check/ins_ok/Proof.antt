@@ -2,7 +2,7 @@
 use Prim.Native.Nat.{ℕ, _-_, _≤_, _<_}
 use native.Mathlib.Omega.{arith}
 use Rattle.meaning.specs.Says.{aye, nay}
-use Rattle.reply.specs.Places.{InGood}
+use Rattle.reply.specs.Sound.{InGood}
 use Rattle.reply.proofs.Lists.{up-to-suc}
 use Rattle.reply.proofs.Judge.{Met, met-none, met-more, in-good, in-low, in-met}
 use Rattle.reply.proofs.check.ins_ok.Statement.{statement}

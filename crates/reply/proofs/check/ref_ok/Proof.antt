@@ -1,6 +1,6 @@
 -- `reply::check::ref_ok` meets its contract.
 use native.Mathlib.Omega.{arith}
-use Rattle.reply.specs.Places.{RefOk}
+use Rattle.reply.specs.Sound.{RefOk}
 use Rattle.reply.proofs.Tests.{says-lt, says-eq}
 use Rattle.reply.proofs.Judge.{ref-const}
 use Rattle.reply.proofs.check.ref_ok.Statement.{statement}

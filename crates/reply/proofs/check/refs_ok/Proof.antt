@@ -4,7 +4,7 @@ use mathlib.Core.Path.{_≡_, refl, _∙_}
 use native.Mathlib.Omega.{arith}
 use Rattle.meaning.specs.Says.{aye, nay}
 use Rattle.reply.specs.Read.{refWidth}
-use Rattle.reply.specs.Places.{RefGood}
+use Rattle.reply.specs.Sound.{RefGood}
 use Rattle.reply.proofs.Lists.{up-to-suc}
 use Rattle.reply.proofs.Tests.{says-yes, says-no}
 use Rattle.reply.proofs.Judge.{ref-good, next-place, first-place, room-here}

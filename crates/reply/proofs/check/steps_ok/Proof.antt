@@ -4,7 +4,7 @@ use mathlib.Core.Path.{_≡_}
 use native.Mathlib.Omega.{arith}
 use Rattle.meaning.specs.Says.{aye, nay}
 use Rattle.reply.specs.Read.{stepWidth}
-use Rattle.reply.specs.Places.{StepGood}
+use Rattle.reply.specs.Sound.{StepGood}
 use Rattle.reply.proofs.Lists.{up-to-suc}
 use Rattle.reply.proofs.Tests.{says-yes, says-no}
 use Rattle.reply.proofs.Judge.{step-good, next-place, first-place, room-here}
