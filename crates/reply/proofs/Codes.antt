@@ -17,7 +17,7 @@ use Rattle.reply.specs.Write.{refBits, stepBits, each}
 use Rattle.reply.specs.Read.{refWidth, stepWidth, refFrom, stepFrom}
 use Rattle.reply.specs.WellFormed.{Result}
 use Rattle.reply.specs.Promise.{CodeRef}
-use Rattle.reply.specs.Codes.{refOf, codeOf, stepOf, refsAt, stepsAt, RefCode, bare, rowIn, rowIns}
+use Rattle.reply.specs.Codes.{code, refOf, stepOf, refsAt, stepsAt, RefCode, bare, rowIn, rowIns}
 use Rattle.reply.proofs.Lists.{each-none, each-more}
 
 -- ---- a reference's code, and a step's
@@ -29,9 +29,9 @@ kinds w (suc (suc zero)) x h z = refl
 kinds w (suc (suc (suc zero))) x h z = refl
 kinds w (suc (suc (suc (suc k)))) x h z = absurd (omega arith)
 
-pub ref-code : (w code : ℕ) → RefCode w code → digits 2 (code / 4096) ++ digits w (code % 4096) ≡ refBits w (refOf code)
+pub ref-code : (w c : ℕ) → RefCode w c → digits 2 (c / 4096) ++ digits w (c % 4096) ≡ refBits w (refOf c)
 unfolding refOf
-ref-code w code h = kinds w (code / 4096) (code % 4096) (h .kind) (λ l. h .plain (omega arith))
+ref-code w c h = kinds w (c / 4096) (c % 4096) (h .kind) (λ l. h .plain (omega arith))
 
 ops : (w op : ℕ) (a b : Ref) → op < 3 → (op ≡ 2 → b ≡ Ref.low) → digits 2 op ++ (refBits w a ++ refBits w b) ≡ stepBits w (stepFrom op a b)
 unfolding stepBits stepFrom refBits
@@ -56,14 +56,13 @@ code-at k x h =
     rw (q, m) refl
 
 pub code-ref : CodeRef
-unfolding codeOf refFrom
+unfolding refFrom
 code-ref n m Ref.low hn hm h = code-at 0 0 (omega arith)
 code-ref n m Ref.high hn hm h = code-at 1 0 (omega arith)
 code-ref n m (Ref.var x) hn hm h = code-at 2 x (omega arith)
 code-ref n m (Ref.step i) hn hm h = code-at 3 i (omega arith)
 
-pub code-fine : (n m : ℕ) (r : Ref) → n ≤ 4096 → m ≤ 4096 → Result n m r → RefCode 12 (codeOf r)
-unfolding codeOf
+pub code-fine : (n m : ℕ) (r : Ref) → n ≤ 4096 → m ≤ 4096 → Result n m r → RefCode 12 (code r)
 code-fine n m Ref.low hn hm h = record { kind = omega arith; plain = λ l. refl; fits = omega arith }
 code-fine n m Ref.high hn hm h = record { kind = omega arith; plain = λ l. refl; fits = omega arith }
 code-fine n m (Ref.var x) hn hm h = record { kind = omega arith; plain = λ l. omega arith; fits = omega arith }

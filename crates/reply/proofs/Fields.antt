@@ -39,7 +39,7 @@ operand-of n m (suc zero) x l h = absurd (omega arith)
 operand-of n m (suc (suc zero)) x l h = h
 operand-of n m (suc (suc (suc k))) x l h = h
 
-operand-result : (n m : ℕ) (r : Ref) → Operand n m r → Result n m r
+pub operand-result : (n m : ℕ) (r : Ref) → Operand n m r → Result n m r
 operand-result n m Ref.low h = tt
 operand-result n m Ref.high h = tt
 operand-result n m (Ref.var x) h = h

@@ -14,7 +14,7 @@ use Rattle.bits.specs.Bits.{fieldAt}
 use Rattle.bits.proofs.Laws.{field-lt, one-more}
 use Rattle.meaning.specs.Says.{Says}
 use Rattle.meaning.proofs.Says.{says-iff}
-use Rattle.reply.specs.Read.{refWidth, stepWidth, inAt}
+use Rattle.reply.specs.Read.{refWidth, stepWidth, inAt, refFrom, stepFrom, refAt, stepAt}
 use Rattle.reply.specs.Sound.{RefOk, OperandOk, StepOk, StepGood, RefGood, InGood}
 use Rattle.reply.proofs.Lists.{up-to-suc}
 use Rattle.reply.specs.Post.{HeadIs, RefIs, StepIs}
@@ -114,6 +114,15 @@ module _ (w : ℕ) (s : List ℕ) (at n m : ℕ) where
 
   pub ref-good : (t : RefField) → RefIs w s at t → (RefOk n m (t .kind) (t .number) → RefGood w s n m at) × (RefGood w s n m at → RefOk n m (t .kind) (t .number))
   ref-good t h = ((λ g. rw (h .kind-is, h .number-is) at g), (λ g. rw (h .kind-is, h .number-is) g))
+
+-- what was read, as a reference and as a step
+pub ref-from : (w : ℕ) (s : List ℕ) (at : ℕ) (t : RefField) → RefIs w s at t → refAt w s at ≡ refFrom (t .kind) (t .number)
+unfolding refAt
+ref-from w s at t h = rw (h .kind-is, h .number-is) refl
+
+pub step-from : (w : ℕ) (s : List ℕ) (at : ℕ) (t : StepField) → StepIs w s at t → stepAt w s at ≡ stepFrom (t .op) (refFrom (t .kind1) (t .number1)) (refFrom (t .kind2) (t .number2))
+unfolding stepAt refAt
+step-from w s at t h = rw (h .op-is, h .kind1-is, h .number1-is, h .kind2-is, h .number2-is) refl
 
 -- the place of the next of fields that are W wide, and room for it
 pub next-place : (W a i : ℕ) → a + W * (i + 1) ≡ a + W * i + W

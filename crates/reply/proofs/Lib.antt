@@ -13,3 +13,4 @@ pub mod Whole
 pub mod Unique
 pub mod Rows
 pub mod Laid
+pub mod LaidIn

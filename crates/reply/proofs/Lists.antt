@@ -38,6 +38,9 @@ module _ {A : Type 0} where
   pub tab-is : (f : ℕ → A) (d : A) (xs : List A) (n : ℕ) → length xs ≡ n → ((i : ℕ) → i < n → getD xs i d ≡ f i) → xs ≡ tabulated n 0 f
   tab-is f d xs n e h = ext-getD d xs (tabulated n 0 f) (e ∙ sym (tab-length n 0 f)) (λ i l. h i (omega arith) ∙ sym (tab-at n i f d (omega arith)))
 
+  pub tab-same : (n : ℕ) (f g : ℕ → A) (d : A) → ((i : ℕ) → i < n → f i ≡ g i) → tabulated n 0 f ≡ tabulated n 0 g
+  tab-same n f g d h = tab-is g d (tabulated n 0 f) n (tab-length n 0 f) (λ i l. tab-at n i f d l ∙ h i l)
+
   module _ (W : ℕ) (f : A → List Bool) (wide : (x : A) → length (f x) ≡ W) where
     pub each-length : (xs : List A) → length (each f xs) ≡ W * length xs
     unfolding each

@@ -4,7 +4,7 @@ use native.Mathlib.Nat.{mul-le-mul, mul-assoc}
 use native.Mathlib.Omega.{arith}
 use mathlib.Core.Path.{_≡_, refl, sym, _∙_, subst}
 use mathlib.Core.Bool.{Bool, _&&_, cond}
-use mathlib.Core.Option.{none, some}
+use mathlib.Core.Option.{Option, none, some}
 use lib.ListN.{length, getD}
 use Rattle.bits.specs.Bits.{bytesFor}
 use Rattle.bits.specs.Bits.{Octets}
@@ -18,6 +18,7 @@ use Rattle.reply.specs.Write.{replyBits, write}
 use Rattle.reply.specs.WellFormed.{vars, WellFormed, Fits}
 use Rattle.reply.specs.Read.{refWidth, stepWidth, insTo, stepsTo, vTo, numberOf, fragmentOf, entriesOf, insOf, stepsOf, inAt, refAt, stepAt, decoded, wellFormed, fits, read, Is}
 use Rattle.reply.specs.Sound.{Sound}
+use Rattle.reply.specs.Post.{verdict}
 use Rattle.reply.specs.Promise.{WriteRead, ReadWrite, OneReply, Fits12, MostBytes, SizeIs}
 use Rattle.reply.proofs.Tests.{says-same-bytes}
 use Rattle.reply.proofs.Judged.{says-formed, says-fits}
@@ -141,3 +142,14 @@ sound-read s o h =
 
 pub unsound-none : (w : ℕ) (s : Bytes) → (Sound w s → ⊥) → read w s ≡ none
 unsound-none w s h = read-none w s (λ i. h (sound-of w s (decoded w s) i))
+
+-- what the check's answer tells
+pub check-reply : (s : Bytes) → 0 ≡ verdict (read 12 s) → (r : Reply) × Is 12 s r
+check-reply s e = go (read 12 s) refl e
+  where
+    go : (o : Option Reply) → read 12 s ≡ o → 0 ≡ verdict o → (r : Reply) × Is 12 s r
+    go none q z = absurd (omega arith)
+    go (some r) q z = (r, read-is 12 s r q)
+
+pub check-none : (s : Bytes) → 13 ≡ verdict (read 12 s) → (r : Reply) → Is 12 s r → ⊥
+check-none s e r i = let z : 13 ≡ verdict (some r) = rw (some-is 12 s r i) at e in omega arith

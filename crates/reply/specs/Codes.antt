@@ -3,7 +3,7 @@
 use Prim.Native.Nat.{ℕ, _+_, _*_, _/_, _%_, _^_, _≤_, _<_}
 use mathlib.Core.Path.{_≡_}
 use mathlib.Core.Bool.{cond}
-use mathlib.Core.List.{List, [], _∷_}
+use mathlib.Core.List.{List, [], _∷_, _++_}
 use lib.ListN.{length, getD}
 use lib.Dec.{eqb}
 use Rattle.meaning.specs.Formula.{Ref, Step}
@@ -11,15 +11,25 @@ use Rattle.meaning.specs.Fragment.{Fragment, num, rowCount, rowsOf}
 use Rattle.meaning.specs.Reply.{Reply, standIns, tabulated}
 use Rattle.reply.specs.Read.{refFrom, stepFrom}
 
-unfoldable pub refOf : ℕ → Ref
-refOf code = refFrom (code / 4096) (code % 4096)
+-- ---- references and steps as numbers
+abbrev pub code : Ref → ℕ
+code Ref.low = 0
+code Ref.high = 4096
+code (Ref.var x) = 8192 + x
+code (Ref.step i) = 12288 + i
 
--- the code of a reference
-unfoldable pub codeOf : Ref → ℕ
-codeOf Ref.low = 0
-codeOf Ref.high = 4096
-codeOf (Ref.var x) = 8192 + x
-codeOf (Ref.step i) = 12288 + i
+abbrev pub stepNumbers : Step → List ℕ
+stepNumbers (Step.and a b) = 0 ∷ code a ∷ code b ∷ []
+stepNumbers (Step.or a b) = 1 ∷ code a ∷ code b ∷ []
+stepNumbers (Step.not a) = 2 ∷ code a ∷ 0 ∷ []
+
+unfoldable pub numbers : List Step → List ℕ
+numbers [] = []
+numbers (x ∷ s) = stepNumbers x ++ numbers s
+
+-- ---- and back
+unfoldable pub refOf : ℕ → Ref
+refOf c = refFrom (c / 4096) (c % 4096)
 
 unfoldable pub stepOf : List ℕ → ℕ → Step
 stepOf work p = stepFrom (getD work p 0) (refOf (getD work (p + 1) 0)) (refOf (getD work (p + 2) 0))
@@ -32,10 +42,10 @@ unfoldable pub stepsAt : List ℕ → ℕ → ℕ → List Step
 stepsAt work at n = tabulated n 0 (λ i. stepOf work (at + 3 * i))
 
 -- a code whose number w bits can write, 0 for a constant
-pub record RefCode (w code : ℕ) : Type 0 where
-  pub kind : code / 4096 < 4
-  pub plain : code < 8192 → code % 4096 ≡ 0
-  pub fits : code % 4096 < 2 ^ w
+pub record RefCode (w c : ℕ) : Type 0 where
+  pub kind : c / 4096 < 4
+  pub plain : c < 8192 → c % 4096 ≡ 0
+  pub fits : c % 4096 < 2 ^ w
 
 pub record StepCode (w : ℕ) (work : List ℕ) (p : ℕ) : Type 0 where
   pub op : getD work p 0 < 3

@@ -52,7 +52,7 @@ fn put_row(c: Cursor, out: &mut [u8], kind: u32, fragment: u32) -> Cursor
 }
 
 // The stand-ins, by increasing row.
-pub fn put_ins(c: Cursor, out: &mut [u8], rows: &[u32]) -> Cursor
+fn put_ins(c: Cursor, out: &mut [u8], rows: &[u32]) -> Cursor
     requires { ⌜ (c .at + 5 * length (rowIns (now rows)) ≤ 8 * length (now out)) × (c .at + 5 * length (rowIns (now rows)) + 5 < 2 ^ 64) ⌝ }
     requires { ⌜ ((k : _) → k < rowCount (bare (now rows)) → num (bare (now rows)) k 1 ≡ 1 → num (bare (now rows)) k 2 < 32) ⌝ }
     ensures { λ r. ⌜ Wrote (now (out .entry)) (now (out .exit)) (c .at) (r .at) (each (digits 5) (rowIns (now (rows .entry)))) × (r .at ≡ c .at + 5 * length (rowIns (now (rows .entry)))) ⌝ }
@@ -67,7 +67,7 @@ pub fn put_ins(c: Cursor, out: &mut [u8], rows: &[u32]) -> Cursor
     Cursor { at }
 }
 
-pub fn put_header(
+fn put_header(
     out: &mut [u8],
     number: u32,
     fragment: u32,
@@ -85,7 +85,7 @@ pub fn put_header(
     d.put(out, 13, steps as u32)
 }
 
-pub fn put_ref(c: Cursor, out: &mut [u8], w: usize, code: u16) -> Cursor
+fn put_ref(c: Cursor, out: &mut [u8], w: usize, code: u16) -> Cursor
     requires { ⌜ (c .at + refWidth w ≤ 8 * length (now out)) × (c .at + refWidth w < 2 ^ 64) × (w ≤ 32) × RefCode w code ⌝ }
     ensures { λ r. ⌜ Wrote (now (out .entry)) (now (out .exit)) (c .at) (r .at) (refBits w (refOf code)) × (r .at ≡ c .at + refWidth w) ⌝ }
 {
@@ -93,7 +93,7 @@ pub fn put_ref(c: Cursor, out: &mut [u8], w: usize, code: u16) -> Cursor
     k.put(out, w, (code % 4096) as u32)
 }
 
-pub fn put_step(c: Cursor, out: &mut [u8], w: usize, op: u16, left: u16, right: u16) -> Cursor
+fn put_step(c: Cursor, out: &mut [u8], w: usize, op: u16, left: u16, right: u16) -> Cursor
     requires { ⌜ (c .at + stepWidth w ≤ 8 * length (now out)) × (c .at + stepWidth w < 2 ^ 64) × (w ≤ 32) ⌝ }
     requires { ⌜ (op < 3) × RefCode w left × RefCode w right × (op ≡ 2 → right ≡ 0) ⌝ }
     ensures { λ r. ⌜ Wrote (now (out .entry)) (now (out .exit)) (c .at) (r .at) (stepBits w (stepFrom op (refOf left) (refOf right))) × (r .at ≡ c .at + stepWidth w) ⌝ }
@@ -104,14 +104,7 @@ pub fn put_step(c: Cursor, out: &mut [u8], w: usize, op: u16, left: u16, right: 
 }
 
 // `count` steps from the place `from` of the memory on.
-pub fn put_steps(
-    c: Cursor,
-    out: &mut [u8],
-    w: usize,
-    work: &[u16],
-    from: usize,
-    count: usize,
-) -> Cursor
+fn put_steps(c: Cursor, out: &mut [u8], w: usize, work: &[u16], from: usize, count: usize) -> Cursor
     requires { ⌜ (c .at + stepWidth w * count ≤ 8 * length (now out)) × (c .at + stepWidth w * count < 2 ^ 64) × (w ≤ 32) ⌝ }
     requires { ⌜ (from + 3 * count ≤ length (now work)) × ((i : _) → i < count → StepCode w (now work) (from + 3 * i)) ⌝ }
     ensures { λ r. ⌜ Wrote (now (out .entry)) (now (out .exit)) (c .at) (r .at) (each (stepBits w) (stepsAt (now (work .entry)) from count)) × (r .at ≡ c .at + stepWidth w * count) ⌝ }
@@ -128,14 +121,7 @@ pub fn put_steps(
 }
 
 // `count` references from the place `from` of the memory on.
-pub fn put_refs(
-    c: Cursor,
-    out: &mut [u8],
-    w: usize,
-    work: &[u16],
-    from: usize,
-    count: usize,
-) -> Cursor
+fn put_refs(c: Cursor, out: &mut [u8], w: usize, work: &[u16], from: usize, count: usize) -> Cursor
     requires { ⌜ (c .at + refWidth w * count ≤ 8 * length (now out)) × (c .at + refWidth w * count < 2 ^ 64) × (w ≤ 32) ⌝ }
     requires { ⌜ (from + count ≤ length (now work)) × ((e : _) → e < count → RefCode w (getD (now work) (from + e) 0)) ⌝ }
     ensures { λ r. ⌜ Wrote (now (out .entry)) (now (out .exit)) (c .at) (r .at) (each (refBits w) (refsAt (now (work .entry)) from count)) × (r .at ≡ c .at + refWidth w * count) ⌝ }
