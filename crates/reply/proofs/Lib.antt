@@ -14,3 +14,4 @@ pub mod Unique
 pub mod Rows
 pub mod Laid
 pub mod LaidIn
+pub mod Trial
