@@ -1,0 +1,54 @@
+use mathlib.Core.Path.{_≡_, ap, sym, subst}
+use mathlib.Core.Bool.{true}
+use Rattle.meaning.specs.Says.{Says, aye}
+use Rattle.question.specs.Listed.{kindOf, EntryRule}
+use Rattle.depot.proofs.Tests.{says-ltb}
+use Rattle.depot.proofs.KindTests.{word-rule, no-rule, two-rule}
+use borrow.Author.Needs.{needs}
+use Rattle.depot.proofs.list.entry_ok.Statement.{statement}
+use Rattle.depot.proofs.list.entry_ok.Tie as tie
+
+returns : tie.Need-returns
+unfolding kindOf
+returns c = rw (c .if1 .taken) (aye tt)
+
+word-ok-requires : tie.Need-word-ok-requires
+word-ok-requires c κs = search needs
+
+returns-2 : tie.Need-returns-2
+returns-2 c = word-rule _ _ _ _ _ (c .before .before .if1 .left) (c .before .if2 .taken) (c .word-ok .ensures)
+
+returns-3 : tie.Need-returns-3
+returns-3 c = no-rule _ _ _ _ _ (c .if3 .taken)
+
+returns-4 : tie.Need-returns-4
+unfolding kindOf
+returns-4 c = rw (c .if4 .taken) (says-ltb _ _)
+
+returns-5 : tie.Need-returns-5
+unfolding kindOf
+returns-5 c = rw (c .if5 .taken) (says-ltb _ _)
+
+returns-6 : tie.Need-returns-6
+unfolding kindOf
+returns-6 c = rw (c .if6 .taken) (says-ltb _ _)
+
+both-before-requires : tie.Need-both-before-requires
+both-before-requires c κs = search needs
+
+returns-7 : tie.Need-returns-7
+returns-7 c = two-rule _ _ _ _ _ (c .before .before .before .before .before .if2 .left) (c .before .before .before .before .if3 .left) (c .before .before .before .if4 .left) (c .before .before .if5 .left) (c .before .if6 .left) (c .both-before .ensures)
+
+pub entry-ok-spec : {M : Type 1} → statement M
+entry-ok-spec =
+    tie.close
+    (tie.spec
+    returns
+    word-ok-requires
+    returns-2
+    returns-3
+    returns-4
+    returns-5
+    returns-6
+    both-before-requires
+    returns-7)
