@@ -7,8 +7,9 @@ use mathlib.Core.Bool.{Bool, false}
 use mathlib.Core.Logic.{_⊎_, inl, inr, ⊎-elim}
 use lib.ListN.{getD}
 use Rattle.meaning.specs.Says.{Says, nay}
-use Rattle.meaning.specs.Fragment.{Fragment, num, RealRow, StandIn, RowRule}
+use Rattle.meaning.specs.Fragment.{Fragment, num, rowCount, RealRow, StandIn, RowRule, Sound}
 use Rattle.meaning.proofs.Says.{says-iff}
+use Rattle.depot.proofs.Loops.{block}
 
 abbrev First : Fragment → ℕ → Type 0
 First F k = (num F k 0 ≡ 4_294_967_295) × RealRow F k
@@ -53,3 +54,18 @@ module _ (number : ℕ) (F : Fragment) where
 
         pub row-stands : (num F k 1 ≡ 0 → ⊥) → {b : Bool} → Says (StandIn number F k) b → Says (RowRule number F k) b
         row-stands h s = under (says-iff inr (⊎-elim (λ r. absurd (h (r .kind))) (λ r. r)) s)
+
+-- WHAT A SOUND FRAGMENT GIVES: a row that is no stand-in is real, and a parent comes first
+module _ (number : ℕ) (F : Fragment) (s : Sound number F) where
+  pub sound-real : (k : ℕ) → k < rowCount F → (num F k 1 ≡ 1 → ⊥) → RealRow F k
+  unfolding RowRule
+  sound-real zero h n = s .each zero h .1
+  sound-real (suc k) h n = ⊎-elim (λ r. r) (λ r. absurd (n (r .kind))) (s .each (suc k) h .2)
+
+  pub sound-parent : (k : ℕ) → k < rowCount F → (k ≡ 0 → ⊥) → getD (F .rows) (k * 6) 0 < k
+  unfolding RowRule
+  sound-parent zero h n = absurd (n refl)
+  sound-parent (suc k) h n = subst (λ q. q < suc k) (sym (parent-is number F (suc k) (getD (F .rows) (suc k * 6) 0) refl)) (s .each (suc k) h .0)
+
+  pub parent-block : (n k up : ℕ) → k < rowCount F → (k ≡ 0 → ⊥) → up ≡ getD (F .rows) (k * 6) 0 → up * n + n ≤ rowCount F * n
+  parent-block n k up h z e = block n (omega (arith, sound-parent k h z))
