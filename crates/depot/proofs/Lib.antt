@@ -3,3 +3,8 @@ pub mod Rules
 pub mod KindTests
 pub mod Loops
 pub mod Words
+pub mod Held
+pub mod Grows
+pub mod Visits
+pub mod Pushes
+pub mod Sweeps

@@ -288,14 +288,7 @@ fn lifted(work: &mut [u16], size: usize, steps: usize, at: usize, up: usize, e: 
 }
 
 // Each entry of the row at `at` to its parent at `up`.
-fn pushed(
-    work: &mut [u16],
-    size: usize,
-    steps: usize,
-    at: usize,
-    up: usize,
-    count: usize,
-) -> usize
+fn pushed(work: &mut [u16], size: usize, steps: usize, at: usize, up: usize, count: usize) -> usize
     requires { ⌜ Room size (now work) steps ⌝ }
     requires { ⌜ at + count ≤ size ⌝ }
     requires { ⌜ up + count ≤ size ⌝ }

@@ -1,25 +1,22 @@
+use native.Mathlib.Omega.{arith}
+use mathlib.Core.Path.{refl}
+use Rattle.depot.specs.Flat.{st}
+use Rattle.depot.proofs.Sweeps.{made}
 use borrow.Author.Needs.{needs}
 use Rattle.depot.proofs.formula.formula.Statement.{statement}
 use Rattle.depot.proofs.formula.formula.Tie as tie
-use Rattle.depot.proofs.formula.formula.Reads as reads
-use Rattle.depot.proofs.formula.formula.Lts as lts
-use Rattle.depot.proofs.formula.swept.Reads as swept-reads
 
--- src/formula.rt:434:16
 mul-size : tie.Need-mul-size
-mul-size c = ?
+mul-size c = omega (arith, c .before .before .before .before .before .pre .room)
 
--- src/formula.rt:435:9
 swept-requires : tie.Need-swept-requires
-swept-requires c κs = ?
+swept-requires c κs = (c .before .before .before .before .before .before .pre .room, ((c .before .before .before .before .before .before .pre .number, c .before .before .before .before .before .before .pre .sound), (c .before .before .before .before .before .before .pre .keeps, (refl, refl))))
 
--- src/formula.rt:432:1
 same-length : tie.Need-same-length
 same-length c = search needs
 
--- src/formula.rt:432:1
 returns : tie.Need-returns
-returns c = search needs
+returns c = made _ _ _ _ (c .before .before .before .before .before .before .before .before .before .pre .sound) (c .before .before .before .before .before .before .before .before .before .pre .keeps) _ (st (c .before .before .swept .last .0) (c .before .before .swept .result)) (c .before .before .before .before .before .before .before .before .before .pre .room) (c .before .before .before .before .before .before .before .before .before .pre .zeros) (c .before .before .swept .ensures .is)
 
 pub formula-spec : {M : Type 1} → statement M
 formula-spec = tie.close (tie.spec mul-size swept-requires same-length returns)
