@@ -5,13 +5,13 @@ use native.Mathlib.Numerals.{add-one}
 use native.Mathlib.Omega.{arith}
 use native.Mathlib.Nat.{le-antisymm, mul-le-mul-right, mul-le-mul-left}
 use mathlib.Core.List.{List, _++_, append-nil}
-use lib.ListN.{length, getD, drop, replicate}
+use lib.ListN.{length, getD, set, drop, replicate}
 use lib.Seq.{drop-length}
 use borrow.Author.Tests.{ne-eqb}
 use Rattle.meaning.specs.Bytes.{Bytes}
 use Rattle.meaning.specs.Fragment.{Fragment}
 use Rattle.question.specs.declared.List as L
-use Rattle.depot.specs.Flat.{St, across, downFrom, rowF, pushF, deliverF}
+use Rattle.depot.specs.Flat.{St, across, downFrom, rowF, pushF, deliverF, varF}
 
 module _ {A : Type 0} (f : ℕ → A → A) where
   -- counting up to n: what is left from i on
@@ -70,3 +70,7 @@ delivered-is l t F size k place up r s n p q e = simp (ne-eqb k 0 n) (e ∙ (λ 
 
 pub delivered-at : (l : L.List) (t : Bytes) (F : Fragment) (size k : ℕ) (s : St) {place c : ℕ} {z : St} → place ≡ c → z ≡ deliverF l t F size k place s → z ≡ deliverF l t F size k c s
 delivered-at l t F size k s p e = e ∙ ap (λ x. deliverF l t F size k x s) p
+
+-- a stand-in's variables at entry e, counted from the first
+pub var-is : (size at n first e : ℕ) (m : List ℕ) {x y : ℕ} → x ≡ first + e → y ≡ first + (n + e) → set (set m (at + e) (8192 + x)) (2 * size + at + e) (8192 + y) ≡ varF size at n first e m
+var-is size at n first e m p q = cc

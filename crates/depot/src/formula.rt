@@ -169,12 +169,14 @@ fn value(
     if kind < 3 {
         return Coded { code: told, steps };
     }
+    let c = size + at;
+    let d = 2 * size + at;
     if kind == 3 {
-        let child = work[size + at + i];
+        let child = work[c + i];
         return Coded { code: child, steps };
     }
     if kind == 5 {
-        let lower = work[2 * size + at + i];
+        let lower = work[d + i];
         return Coded { code: lower, steps };
     }
     let a = work[at + i];
@@ -254,10 +256,14 @@ fn stood(work: &mut [u16], size: usize, at: usize, count: usize, first: usize)
     requires { ⌜ first ≤ 32768 ⌝ }
     ensures { λ _. ⌜ now (work .exit) ≡ standF size at count first (now (work .entry)) ⌝ }
 {
+    let mut x = first;
+    let mut y = first + count;
     let mut e = 0;
     while e < count {
-        work[at + e] = (8192 + (first + e)) as u16;
-        work[2 * size + at + e] = (8192 + (first + (count + e))) as u16;
+        work[at + e] = (8192 + x) as u16;
+        work[2 * size + at + e] = (8192 + y) as u16;
+        x += 1;
+        y += 1;
         e += 1;
     }
 }
@@ -283,8 +289,12 @@ fn lifted(work: &mut [u16], size: usize, steps: usize, at: usize, up: usize, e: 
     requires { ⌜ up + e < size ⌝ }
     ensures { λ r. ⌜ Does (now (work .exit)) r (liftF size at up e (st (now (work .entry)) steps)) ⌝ }
 {
-    let n = or_into(work, size, steps, size + up + e, at + e);
-    or_into(work, size, n, 2 * size + up + e, 2 * size + at + e)
+    let here = at + e;
+    let lower = 2 * size + at + e;
+    let c = size + up + e;
+    let d = 2 * size + up + e;
+    let n = or_into(work, size, steps, c, here);
+    or_into(work, size, n, d, lower)
 }
 
 // Each entry of the row at `at` to its parent at `up`.

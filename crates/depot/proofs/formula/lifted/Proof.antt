@@ -5,35 +5,35 @@ use borrow.Author.Needs.{needs}
 use Rattle.depot.proofs.formula.lifted.Statement.{statement}
 use Rattle.depot.proofs.formula.lifted.Tie as tie
 
-add-or-into : tie.Need-add-or-into
-add-or-into c = search needs
+add-here : tie.Need-add-here
+add-here c = search needs
 
-add-or-into-2 : tie.Need-add-or-into-2
-add-or-into-2 c = search needs
+mul-lower : tie.Need-mul-lower
+mul-lower c = search needs
 
-add-or-into-3 : tie.Need-add-or-into-3
-add-or-into-3 c = search needs
+add-lower : tie.Need-add-lower
+add-lower c = search needs
+
+add-lower-2 : tie.Need-add-lower-2
+add-lower-2 c = search needs
+
+add-c : tie.Need-add-c
+add-c c = search needs
+
+add-c-2 : tie.Need-add-c-2
+add-c-2 c = search needs
+
+mul-d : tie.Need-mul-d
+mul-d c = search needs
+
+add-d : tie.Need-add-d
+add-d c = search needs
+
+add-d-2 : tie.Need-add-d-2
+add-d-2 c = search needs
 
 or-into-requires : tie.Need-or-into-requires
 or-into-requires c κs = search needs
-
-mul-or-into : tie.Need-mul-or-into
-mul-or-into c = search needs
-
-add-or-into-4 : tie.Need-add-or-into-4
-add-or-into-4 c = search needs
-
-add-or-into-5 : tie.Need-add-or-into-5
-add-or-into-5 c = search needs
-
-mul-or-into-2 : tie.Need-mul-or-into-2
-mul-or-into-2 c = search needs
-
-add-or-into-6 : tie.Need-add-or-into-6
-add-or-into-6 c = search needs
-
-add-or-into-7 : tie.Need-add-or-into-7
-add-or-into-7 c = search needs
 
 or-into-requires-2 : tie.Need-or-into-requires-2
 or-into-requires-2 c κs = search needs
@@ -49,16 +49,16 @@ pub lifted-spec : {M : Type 1} → statement M
 lifted-spec =
     tie.close
     (tie.spec
-    add-or-into
-    add-or-into-2
-    add-or-into-3
+    add-here
+    mul-lower
+    add-lower
+    add-lower-2
+    add-c
+    add-c-2
+    mul-d
+    add-d
+    add-d-2
     or-into-requires
-    mul-or-into
-    add-or-into-4
-    add-or-into-5
-    mul-or-into-2
-    add-or-into-6
-    add-or-into-7
     or-into-requires-2
     same-length
     returns)

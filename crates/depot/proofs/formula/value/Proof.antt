@@ -10,11 +10,17 @@ use Rattle.depot.proofs.formula.value.Tie as tie
 returns : tie.Need-returns
 returns c = record { is = told-value _ _ _ _ _ _ _ _ (c .if1 .taken); count = search needs }
 
-add-child : tie.Need-add-child
-add-child c = search needs
+add-c : tie.Need-add-c
+add-c c = search needs
 
-add-child-2 : tie.Need-add-child-2
-add-child-2 c = omega (arith, left-reads _ _ _ _ (c .before .if1 .left) (c .before .before .before .pre .1 .2), c .before .before .before .pre .1 .1)
+mul-d : tie.Need-mul-d
+mul-d c = search needs
+
+add-d : tie.Need-add-d
+add-d c = search needs
+
+add-child : tie.Need-add-child
+add-child c = omega (arith, left-reads _ _ _ _ (c .before .if1 .left) (c .before .before .before .pre .1 .2), c .before .before .before .pre .1 .1)
 
 mul-child : tie.Need-mul-child
 mul-child c = omega (arith, left-reads _ _ _ _ (c .before .if1 .left) (c .before .before .before .pre .1 .2), c .before .before .before .pre .1 .1)
@@ -26,17 +32,11 @@ returns-2 : tie.Need-returns-2
 unfolding kindOf
 returns-2 c = record { is = rw (c .before .if2 .taken); count = search needs }
 
-mul-lower : tie.Need-mul-lower
-mul-lower c = search needs
-
 add-lower : tie.Need-add-lower
-add-lower c = search needs
+add-lower c = omega (arith, left-reads _ _ _ _ (c .before .before .if1 .left) (c .before .before .before .before .pre .1 .2), c .before .before .before .before .pre .1 .1)
 
-add-lower-2 : tie.Need-add-lower-2
-add-lower-2 c = omega (arith, left-reads _ _ _ _ (c .before .before .if1 .left) (c .before .before .before .before .pre .1 .2), c .before .before .before .before .pre .1 .1)
-
-mul-lower-2 : tie.Need-mul-lower-2
-mul-lower-2 c = omega (arith, left-reads _ _ _ _ (c .before .before .if1 .left) (c .before .before .before .before .pre .1 .2), c .before .before .before .before .pre .1 .1)
+mul-lower : tie.Need-mul-lower
+mul-lower c = omega (arith, left-reads _ _ _ _ (c .before .before .if1 .left) (c .before .before .before .before .pre .1 .2), c .before .before .before .before .pre .1 .1)
 
 slice-read-lower : tie.Need-slice-read-lower
 slice-read-lower c = omega (arith, left-reads _ _ _ _ (c .before .before .before .if1 .left) (c .before .before .before .before .before .pre .1 .2), c .before .before .before .before .before .pre .1 .1)
@@ -97,15 +97,15 @@ value-spec =
     tie.close
     (tie.spec
     returns
+    add-c
+    mul-d
+    add-d
     add-child
-    add-child-2
     mul-child
     slice-read-child
     returns-2
-    mul-lower
     add-lower
-    add-lower-2
-    mul-lower-2
+    mul-lower
     slice-read-lower
     returns-3
     add-a
