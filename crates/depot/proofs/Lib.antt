@@ -8,3 +8,5 @@ pub mod Grows
 pub mod Visits
 pub mod Pushes
 pub mod Sweeps
+pub mod Ins
+pub mod Shape
