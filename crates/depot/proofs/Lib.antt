@@ -10,3 +10,4 @@ pub mod Pushes
 pub mod Sweeps
 pub mod Ins
 pub mod Shape
+pub mod Laid
