@@ -1,0 +1,13 @@
+-- The laws of the definitions in specs/, and the proofs of what `specs/Promise.antt` promises.
+pub mod Lists
+pub mod Fields
+pub mod Sound
+pub mod Parts
+pub mod Tests
+pub mod Judged
+pub mod Round
+pub mod Judge
+pub mod Verdicts
+pub mod Codes
+pub mod Whole
+pub mod Unique
