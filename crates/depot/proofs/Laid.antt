@@ -26,7 +26,7 @@ use Rattle.question.specs.declared.List as L
 use Rattle.question.specs.Listed.{Kind, kindOf, EntryRule, Keeps, entryOf, listed}
 use Rattle.depot.proofs.Ins.{stand-in}
 use Rattle.depot.proofs.Loops.{block}
-use Rattle.depot.proofs.Shape.{Result, Whole, run-fine}
+use Rattle.depot.proofs.Shape.{Whole, run-fine}
 
 -- A LIST THAT KEEPS ITS RULES points only at earlier entries
 rule-points : (t : Bytes) (i : ℕ) (q : Kind) (a b : ℕ) → EntryRule t i q a b → Points i (entryOf t q a b)

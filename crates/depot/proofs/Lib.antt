@@ -11,3 +11,4 @@ pub mod Sweeps
 pub mod Ins
 pub mod Shape
 pub mod Laid
+pub mod Kept

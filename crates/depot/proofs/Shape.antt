@@ -16,24 +16,8 @@ use Rattle.meaning.specs.Formula.{Ref, Step, added, constant, sorted, joined, n
 use Rattle.meaning.specs.Fragment.{Rows}
 use Rattle.meaning.specs.Run.{Vectors, Tables, upd, literal, valueOf, visit, push, row, deliver, sweep, run}
 use Rattle.meaning.proofs.Numbers.{upd-same, upd-other}
+use Rattle.reply.specs.WellFormed.{Result, Operand, Operands}
 use Rattle.depot.proofs.Grows.{joined-grows, negated-grows, value-grows, visit-grows, push-grows, row-grows}
-
-abbrev pub Result : ℕ → ℕ → Ref → Type 0
-Result n m Ref.low = Unit {0}
-Result n m Ref.high = Unit {0}
-Result n m (Ref.var x) = x < n
-Result n m (Ref.step i) = i < m
-
-abbrev pub Operand : ℕ → ℕ → Ref → Type 0
-Operand n m Ref.low = ⊥
-Operand n m Ref.high = ⊥
-Operand n m (Ref.var x) = x < n
-Operand n m (Ref.step i) = i < m
-
-abbrev pub Operands : ℕ → ℕ → Step → Type 0
-Operands n m (Step.and a b) = Operand n m a × Operand n m b
-Operands n m (Step.or a b) = Operand n m a × Operand n m b
-Operands n m (Step.not a) = Operand n m a
 
 module _ (n : ℕ) where
   result-more : (m m′ : ℕ) (r : Ref) → m ≤ m′ → Result n m r → Result n m′ r
