@@ -12,3 +12,4 @@ pub mod Ins
 pub mod Shape
 pub mod Laid
 pub mod Kept
+pub mod Answers

@@ -1,5 +1,7 @@
--- What a reader must believe: `Lent`, `Coded`, `Formula`. `Flat` says what the inner functions do, and no public contract cites it.
+-- What a reader must believe: `Lent`, `Answer`, and `Promise` for what is proved of them. `Coded`, `Formula` and `Flat` are what inner
+-- functions' contracts cite.
 pub mod Lent
 pub mod Coded
 pub mod Formula
 pub mod Flat
+pub mod Answer
