@@ -13,3 +13,4 @@ pub mod Shape
 pub mod Laid
 pub mod Kept
 pub mod Answers
+pub mod Promised

@@ -5,3 +5,4 @@ pub mod Coded
 pub mod Formula
 pub mod Flat
 pub mod Answer
+pub mod Promise
