@@ -1,11 +1,11 @@
 -- THE ANSWER, by the way that the code took.
-use Prim.Native.Nat.{ℕ, zero, suc, _+_, _*_, _/_, _<_, _≤_}
+use Prim.Native.Nat.{ℕ, zero, _+_, _*_, _<_, _≤_}
 use native.Mathlib.Omega.{arith}
 use native.Mathlib.Nat.{mul-le-mul-right}
 use mathlib.Core.Path.{_≡_, refl, sym, ap, _∙_, subst}
-use mathlib.Core.Bool.{Bool, true, false, cond, true≢false, false≢true}
-use mathlib.Core.List.{List, _++_}
-use lib.ListN.{length, drop, replicate, length-replicate}
+use mathlib.Core.Bool.{Bool, true, false, true≢false, false≢true}
+use mathlib.Core.List.{List}
+use lib.ListN.{length, replicate, length-replicate}
 use Rattle.meaning.specs.Bytes.{Bytes}
 use Rattle.meaning.specs.Formula.{formula}
 use Rattle.meaning.specs.Fragment.{Fragment, Sound, rowCount, rowsOf}
@@ -18,9 +18,9 @@ use Rattle.reply.specs.Post.{Written}
 use Rattle.reply.specs.Read as Read
 use Rattle.reply.proofs.Lists.{tab-length}
 use Rattle.reply.proofs.Round.{size-is}
-use Rattle.depot.specs.Answer.{Call, call, laid, bytes, Unless, refused, passed, Taken, taken, Late, Refusal, memoryAfter, Answered, Worked}
+use Rattle.depot.specs.Answer.{Call, call, laid, bytes, Unless, refused, passed, Taken, taken, memoryAfter, Answered, Worked}
 use Rattle.depot.specs.Formula as Made
-use Rattle.depot.specs.Formula.{Laid, Made, Ready}
+use Rattle.depot.specs.Formula.{Laid, Made}
 use Rattle.depot.proofs.Kept.{rows-ins, ins-few, front-in, formula-in, reply-in}
 use Rattle.depot.proofs.Sweeps.{listed-length}
 
@@ -58,11 +58,7 @@ module _ (l : L.List) (t : Bytes) (F : Fragment) (part number : ℕ) (keeps : Ke
   abbrev size : ℕ
   size = rowCount F * l .count
 
-  steps-are : laid c .steps ≡ o .st
-  unfolding laidDown
-  steps-are = refl
-
-  pub bytes-length : length (bytes c) ≡ Read.size 12 (length (rowIns (F .rows))) (length (o .st)) (l .count)
+  bytes-length : length (bytes c) ≡ Read.size 12 (length (rowIns (F .rows))) (length (o .st)) (l .count)
   unfolding laidDown
   bytes-length = size-is 12 (laid c) (tab-length _ _ _) (tab-length _ _ _) ∙ (λ i. Read.size 12 (length (ins i)) (length (o .st)) (listed-length l t i))
     where

@@ -1,12 +1,12 @@
 -- STEPS ONLY GROW: on the flat memory the mark stays, and in the run the list gets no shorter.
-use Prim.Native.Nat.{ℕ, zero, suc, _+_, _-_, _*_, _<_, _≤_}
+use Prim.Native.Nat.{ℕ, zero, suc, _+_, _-_, _*_, _≤_}
 use native.Mathlib.Omega.{arith}
 use native.Mathlib.Nat.{le-refl}
-use mathlib.Core.Path.{_≡_, refl, sym, ap, _∙_}
+use mathlib.Core.Path.{_≡_}
 use mathlib.Core.Bool.{Bool, true, false, cond}
 use mathlib.Core.Option.{Option, none, some}
-use mathlib.Core.List.{List, [], _∷_, _++_}
-use lib.ListN.{length, getD, length-append}
+use mathlib.Core.List.{List, [], _∷_}
+use lib.ListN.{length, length-append}
 use lib.Dec.{eqb}
 use borrow.Author.Tests.{le-ltb}
 use Rattle.meaning.specs.Bytes.{Bytes, labelIs, textIs}
@@ -16,7 +16,7 @@ use Rattle.meaning.specs.Fragment.{Fragment, Rows}
 use Rattle.meaning.specs.Run.{Vectors, Tables, upd, valueOf, visit, push, row, deliver, sweep}
 use Rattle.question.specs.declared.List as L
 use Rattle.question.specs.Listed.{Kind}
-use Rattle.depot.specs.Flat.{St, st, Got, got, across, downFrom, addF, joinF, notF, valueF, enterF, entryF, rowF, orInto, liftF, deliverF, stands, standF, visitF, pushF}
+use Rattle.depot.specs.Flat.{St, st, Got, across, downFrom, addF, joinF, notF, valueF, enterF, entryF, rowF, orInto, liftF, deliverF, stands}
 
 -- THE MARK STAYS
 both : {A : Type 0} (P : A → Type 0) (b : Bool) {x y : A} → P x → P y → P (cond b x y)

@@ -3,14 +3,14 @@ use Prim.Native.Nat.{ℕ, zero, suc, _+_, _-_, _*_, _<_, _≤_}
 use native.Mathlib.Numerals.{add-one, add-two, add-three}
 use native.Mathlib.Nat.{add-assoc}
 use native.Mathlib.Omega.{arith}
-use mathlib.Core.Path.{_≡_, refl, sym, ap, _∙_, subst}
+use mathlib.Core.Path.{_≡_, refl, sym, ap, _∙_}
 use mathlib.Core.Bool.{Bool, true, false, cond}
 use mathlib.Core.Option.{Option, none, some}
 use mathlib.Core.List.{List, [], _∷_, _++_, append-assoc, append-nil}
 use lib.ListN.{length, getD, set, take, drop, length-set, length-drop, length-append}
 use lib.Seq.{getD-set-other, drop-set-add}
-use lib.Dec.{eqb, ltb}
-use borrow.Author.Tests.{ltb-true, ltb-false, le-ltb, eq-eqb, ne-eqb}
+use lib.Dec.{ltb}
+use borrow.Author.Tests.{ltb-true, ltb-false, eq-eqb, ne-eqb}
 use Rattle.meaning.specs.Formula.{Ref, Step, constant, sorted, joined, negated}
 use Rattle.depot.specs.Coded.{code, stepNumbers, numbers}
 use Rattle.depot.specs.Flat.{Got, got, stepAt, addF, joinF, notF}
@@ -123,10 +123,6 @@ opOf false = 0
 abbrev pub stepOf : Bool → Ref → Ref → Step
 stepOf true a b = Step.or a b
 stepOf false a b = Step.and a b
-
-numbers-of : (z : Bool) (a b : Ref) → stepNumbers (stepOf z a b) ≡ opOf z ∷ code a ∷ code b ∷ []
-numbers-of true a b = refl
-numbers-of false a b = refl
 
 module _ (size : ℕ) (m : List ℕ) (n : ℕ) (s : List Step) (counts : n ≡ length s) (most : length s ≤ 4096) (h : Held size m s) where
   join-at : (z : Bool) (a b : Ref) (o p : Option Bool) → View (code a) o → View (code b) p

@@ -3,16 +3,16 @@ use Prim.Native.Nat.{ℕ, zero, suc, _+_, _-_, _*_, _/_, _%_, _<_, _≤_}
 use native.Mathlib.Omega.{arith}
 use native.Mathlib.Nat.{add-assoc, zero-add, mul-le-mul-right}
 use mathlib.Core.Path.{_≡_, refl, sym, ap, _∙_, subst}
-use mathlib.Core.Bool.{Bool, true, false, cond}
+use mathlib.Core.Bool.{cond}
 use mathlib.Core.List.{List, [], _∷_, _++_}
-use lib.ListN.{length, getD, take, drop}
+use lib.ListN.{length, getD, drop}
 use lib.Seq.{getD-take, getD-drop}
 use borrow.Author.Tests.{eq-eqb}
 use Rattle.meaning.specs.Bytes.{Bytes}
 use Rattle.meaning.specs.Entry.{Entry}
 use Rattle.meaning.specs.Formula.{Ref, Step, formula}
 use Rattle.meaning.specs.Fragment.{Fragment, Sound, Rows, num, rowCount, rowsOf}
-use Rattle.meaning.specs.Reply.{Reply, standIns, tabulated, laidRun, laidDown}
+use Rattle.meaning.specs.Reply.{standIns, tabulated, laidRun, laidDown}
 use Rattle.meaning.specs.Run.{Vectors}
 use Rattle.question.specs.declared.List as L
 use Rattle.question.specs.Listed.{Keeps, listed}

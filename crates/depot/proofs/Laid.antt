@@ -2,7 +2,7 @@
 use Prim.Native.Nat.{ℕ, zero, suc, _+_, _-_, _*_, _<_, _≤_}
 use native.Mathlib.Omega.{arith}
 use native.Mathlib.Nat.{zero-add, suc-add, mul-comm, le-refl}
-use native.Mathlib.Decide.{ℕ-discrete, decLt}
+use native.Mathlib.Decide.{decLt}
 use mathlib.Core.Path.{_≡_, refl, sym, ap, _∙_, subst}
 use mathlib.Core.Bool.{Bool, true, false, cond, true≢false}
 use mathlib.Core.Logic.{_≢_}
@@ -15,12 +15,10 @@ use Rattle.meaning.specs.Bytes.{Bytes}
 use Rattle.meaning.specs.Tree.{Below, here, down}
 use Rattle.meaning.specs.Bound.{Open, count, stepBound}
 use Rattle.meaning.specs.Entry.{Entry, Points, Earlier}
-use Rattle.meaning.specs.Formula.{Ref, Step}
-use Rattle.meaning.specs.Fragment.{Fragment, StandIn, Sound, Rows, num, rowCount, rowsOf, ChildRow, alone}
+use Rattle.meaning.specs.Fragment.{Fragment, StandIn, Sound, Rows, num, rowCount, rowsOf, alone}
 use Rattle.meaning.specs.Promise.{NoStandIn}
-use Rattle.meaning.specs.Reply.{Reply, standIns, tabulated, varV, varD, laidRun, laidDown}
+use Rattle.meaning.specs.Reply.{standIns, tabulated, varV, varD, laidRun, laidDown}
 use Rattle.meaning.proofs.Bound.{step-bound}
-use Rattle.meaning.proofs.Fragment.{row-inside}
 use Rattle.meaning.proofs.Reply.{position}
 use Rattle.question.specs.declared.List as L
 use Rattle.question.specs.Listed.{Kind, kindOf, EntryRule, Keeps, entryOf, listed}

@@ -1,10 +1,10 @@
 -- The proofs of what `specs/Promise.antt` promises.
-use Prim.Native.Nat.{ℕ, zero, suc, _+_, _*_, _^_, _<_, _≤_}
+use Prim.Native.Nat.{ℕ, zero, suc, _+_, _*_, _<_, _≤_}
 use native.Mathlib.Omega.{arith}
 use mathlib.Core.Path.{_≡_, refl, sym, ap, _∙_, subst}
-use mathlib.Core.Bool.{Bool, cond}
+use mathlib.Core.Bool.{cond}
 use mathlib.Core.Logic.{_⊎_, inl, inr}
-use mathlib.Core.List.{List, [], _∷_, _++_}
+use mathlib.Core.List.{List, _∷_, _++_}
 use lib.ListN.{length, getD, drop}
 use lib.Dec.{eqb}
 use native.Mathlib.Decide.{decLt}
@@ -13,15 +13,15 @@ use Rattle.meaning.specs.Entry.{Entry}
 use Rattle.meaning.specs.Formula.{Ref}
 use Rattle.meaning.specs.Fragment.{Fragment, rowCount, rowsOf}
 use Rattle.meaning.specs.Bound.{stepBound}
-use Rattle.meaning.specs.Reply.{Reply, tabulated, laidRun, laidDown}
+use Rattle.meaning.specs.Reply.{tabulated, laidDown}
 use Rattle.meaning.proofs.Bound.{step-bound}
 use Rattle.question.specs.declared.List as L
 use Rattle.question.specs.Listed.{Kind, kindOf, EntryRule, Keeps, entryOf, listed}
-use Rattle.reply.specs.WellFormed.{Result, vars, WellFormed}
+use Rattle.reply.specs.WellFormed.{Result, vars}
 use Rattle.reply.specs.Write.{write}
 use Rattle.reply.proofs.Lists.{tab-length, tab-at}
 use Rattle.depot.specs.Answer.{Call, call, laid, bytes, Unless, refused, passed, Taken, taken, Late, Refusal, Answered, memoryAfter, bufferAfter}
-use Rattle.depot.specs.Promise.{Same, OneAnswer, Lawful, Roomy, OnlyEight, NeverEight, LaidWellFormed, LaidBound, SameUse, Agree, UnusedIgnored}
+use Rattle.depot.specs.Promise.{OneAnswer, OnlyEight, NeverEight, LaidWellFormed, LaidBound, SameUse, Agree, UnusedIgnored}
 use Rattle.depot.proofs.Kept.{ins-few, whole}
 use Rattle.depot.proofs.Laid.{keeps-earlier, ins-fit, ins-differ, no-steps}
 use Rattle.depot.proofs.Sweeps.{listed-length}

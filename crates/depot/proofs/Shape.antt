@@ -1,6 +1,6 @@
 -- THE SHAPE OF THE FORMULA: of n variables, each step's operands are existing variables or earlier steps, never constants, and results are
 -- constants, existing variables or existing steps.
-use Prim.Native.Nat.{ℕ, zero, suc, _+_, _-_, _*_, _<_, _≤_}
+use Prim.Native.Nat.{ℕ, zero, suc, _+_, _-_, _<_, _≤_}
 use native.Mathlib.Omega.{arith}
 use native.Mathlib.Nat.{le-refl, add-zero}
 use native.Mathlib.Decide.{ℕ-discrete}
@@ -17,7 +17,7 @@ use Rattle.meaning.specs.Fragment.{Rows}
 use Rattle.meaning.specs.Run.{Vectors, Tables, upd, literal, valueOf, visit, push, row, deliver, sweep, run}
 use Rattle.meaning.proofs.Numbers.{upd-same, upd-other}
 use Rattle.reply.specs.WellFormed.{Result, Operand, Operands}
-use Rattle.depot.proofs.Grows.{joined-grows, negated-grows, value-grows, visit-grows, push-grows, row-grows}
+use Rattle.depot.proofs.Grows.{joined-grows, value-grows, push-grows, row-grows}
 
 module _ (n : ℕ) where
   result-more : (m m′ : ℕ) (r : Ref) → m ≤ m′ → Result n m r → Result n m′ r

@@ -5,50 +5,37 @@ use native.Mathlib.Nat.{add-zero}
 use native.Mathlib.Decide.{ℕ-discrete, decLt}
 use mathlib.Core.Path.{_≡_, refl, sym, ap, _∙_, subst}
 use mathlib.Core.Bool.{Bool, true, false, cond}
-use mathlib.Core.List.{List, [], _∷_, _++_}
-use lib.ListN.{length, getD, take, drop, replicate, length-append, getD-replicate}
-use lib.Dec.{eqb, ltb}
+use mathlib.Core.List.{List, []}
+use lib.ListN.{length, getD, replicate, getD-replicate}
+use lib.Dec.{ltb}
 use borrow.Author.Tests.{ne-eqb, lt-ltb, le-ltb}
 use Rattle.meaning.specs.Bytes.{Bytes, labelIs, textIs}
 use Rattle.meaning.specs.Bound.{count}
 use Rattle.meaning.specs.Entry.{Entry}
-use Rattle.meaning.specs.Formula.{Ref, Step, formula}
-use Rattle.meaning.specs.Fragment.{Fragment, Rows, Sound, rowCount, rowsOf, num}
+use Rattle.meaning.specs.Formula.{Ref, formula}
+use Rattle.meaning.specs.Fragment.{Fragment, Rows, Sound, rowCount, rowsOf}
 use Rattle.meaning.specs.Run.{Vectors, Tables, upd, visit, push, row, deliver, sweep, run}
-use Rattle.meaning.specs.Reply.{standIns, tabulated, varV, varD, laidRun}
+use Rattle.meaning.specs.Reply.{standIns, varV, varD, laidRun}
 use Rattle.meaning.proofs.Numbers.{upd-same, upd-other}
 use Rattle.question.specs.declared.List as L
 use Rattle.question.specs.Listed.{Keeps, listed}
 use Rattle.depot.specs.Coded.{code, numbers}
-use Rattle.depot.specs.Formula.{Ready, Laid, Made, within, over}
+use Rattle.depot.specs.Formula.{Laid, Made, within, over}
 use Rattle.depot.specs.Flat as Flat
 use Rattle.depot.specs.Flat.{St, st, downFrom, stands, rowF, deliverF, sweepF, pushF}
 use Rattle.depot.proofs.Held as Held
 use Rattle.depot.proofs.Held.{Sim, after, mapped}
-use Rattle.depot.proofs.Grows.{row-over, deliver-over, down-over, across-over, lift-over, push-grows, row-grows, sweep-grows}
+use Rattle.depot.proofs.Grows.{deliver-over, down-over, across-over, lift-over, push-grows, row-grows, sweep-grows}
+use Rattle.reply.proofs.Lists.{tab-length}
+use Rattle.depot.proofs.Counts.{count-is}
 use Rattle.depot.proofs.Loops.{block}
 use Rattle.depot.proofs.Rules.{sound-parent}
 use Rattle.depot.proofs.Visits.{Visited, visit-sim, stand-held}
 use Rattle.depot.proofs.Pushes.{Pushed, push-sim}
 
--- positions are counts
-pub count-is : (R : Rows) (k : ℕ) → count (R .stands) k ≡ length (standIns R k)
-unfolding count standIns
-count-is R zero = refl
-count-is R (suc k) = go (R .stands k) (count-is R k)
-  where
-    go : (b : Bool) → count (R .stands) k ≡ length (standIns R k) → count (R .stands) k + cond b 1 0 ≡ length (cond b (standIns R k ++ (R .goes k ∷ [])) (standIns R k))
-    go true e = rw length-append (omega arith)
-    go false e = omega arith
-
-tabulated-length : {X : Type 0} (n k : ℕ) (f : ℕ → X) → length (tabulated n k f) ≡ n
-unfolding tabulated
-tabulated-length zero k f = refl
-tabulated-length (suc n) k f = ap suc (tabulated-length n (suc k) f)
-
 pub listed-length : (l : L.List) (t : Bytes) → length (listed l t) ≡ l .count
 unfolding listed
-listed-length l t = tabulated-length (l .count) 0 _
+listed-length l t = tab-length (l .count) 0 _
 
 -- C and D of the rows before row k
 record TabHeld (size n k : ℕ) (m : List ℕ) (S : Tables formula) : Type 0 where

@@ -1,17 +1,16 @@
--- Two words compared byte by byte, the first i bytes being equal; and stand-ins counted.
-use Prim.Native.Nat.{ℕ, zero, suc, _+_, _-_, _<_, _≤_}
+-- Two words compared byte by byte, the first i bytes being equal.
+use Prim.Native.Nat.{ℕ, suc, _+_, _-_, _<_, _≤_}
 use native.Mathlib.Numerals.{add-one}
 use native.Mathlib.Nat.{add-zero, add-suc, sub-zero}
 use native.Mathlib.Omega.{arith}
-use mathlib.Core.Path.{_≡_, refl, sym, ap, ap₂, _∙_, subst}
-use mathlib.Core.Bool.{Bool, true, false, _&&_, cond}
-use mathlib.Core.List.{List, [], _∷_}
-use lib.ListN.{length, getD, take, drop, length-take, length-drop}
+use mathlib.Core.Path.{_≡_, refl, sym, ap, ap₂, _∙_}
+use mathlib.Core.Bool.{Bool, true, false, _&&_}
+use mathlib.Core.List.{[], _∷_}
+use lib.ListN.{length, getD, take, length-take, length-drop}
 use lib.Seq.{drop-cons}
 use lib.Dec.{eqb}
 use borrow.Author.Tests.{eq-eqb, ne-eqb}
 use Rattle.meaning.specs.Bytes.{Bytes, word, sameBytes}
-use Rattle.meaning.specs.Bound.{count}
 
 word-cons : (t : Bytes) (x n : ℕ) → x < length t → word t x (suc n) ≡ getD t x 0 ∷ word t (suc x) n
 word-cons t x n h = ap (take (suc n)) (drop-cons t x 0 h)
@@ -62,31 +61,3 @@ module _ (t p : Bytes) (a b : ℕ) where
     where
       none : len - i ≡ 0
       none = omega arith
-
--- stand-ins
-pub count-more : (p : ℕ → Bool) (k : ℕ) {n r : ℕ} → n ≡ count p k → r ≡ cond (p k) 1 0 → n + r ≡ count p (k + 1)
-unfolding count
-count-more p k e q = rw add-one (ap₂ _+_ e q)
-
-pub count-less : (p : ℕ → Bool) (k : ℕ) {n r : ℕ} → 0 < k → n ≡ count p k → r ≡ cond (p (k - 1)) 1 0 → n ≡ count p (k - 1) + r
-unfolding count
-count-less p k h e q = e ∙ ap (count p) last ∙ ap (λ x. count p (k - 1) + x) (sym q)
-  where
-    last : k ≡ suc (k - 1)
-    last = omega arith
-
-pub place-less : (p : ℕ → Bool) (k : ℕ) {n r : ℕ} → 0 < k → n ≡ count p k → r ≡ cond (p (k - 1)) 1 0 → n - r ≡ count p (k - 1)
-place-less p k h e q = omega (arith, count-less p k h e q)
-
-pub count-none : (p : ℕ → Bool) → 0 ≡ count p 0
-unfolding count
-count-none p = refl
-
-pub count-most : (p : ℕ → Bool) (k : ℕ) → count p k ≤ k
-unfolding count
-count-most p zero = omega arith
-count-most p (suc k) = go (p k) (count-most p k)
-  where
-    go : (b : Bool) → count p k ≤ k → count p k + cond b 1 0 ≤ suc k
-    go true h = omega arith
-    go false h = omega arith

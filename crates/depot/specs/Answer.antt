@@ -1,7 +1,7 @@
 -- WHAT A DEPOT ANSWERS (01, "Numbers of refusal", 5 to 9), and what it leaves in work memory and reply buffer.
 use Prim.Native.Nat.{ℕ, _+_, _*_, _<_, _≤_}
 use mathlib.Core.Path.{_≡_}
-use mathlib.Core.Bool.{Bool, _||_, cond}
+use mathlib.Core.Bool.{_||_, cond}
 use mathlib.Core.List.{List, _++_}
 use lib.ListN.{length, drop, replicate}
 use lib.Dec.{eqb}

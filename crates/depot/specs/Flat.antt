@@ -7,7 +7,7 @@ use mathlib.Core.List.{List}
 use lib.ListN.{length, getD, set}
 use lib.Dec.{eqb, ltb}
 use Rattle.meaning.specs.Bytes.{Bytes, word, labelIs, textIs}
-use Rattle.meaning.specs.Fragment.{Fragment, num, rowCount, rowsOf}
+use Rattle.meaning.specs.Fragment.{Fragment, rowsOf}
 use Rattle.meaning.specs.Bound.{count}
 use Rattle.question.specs.declared.List as L
 use Rattle.question.specs.Listed.{Kind, kindOf}

@@ -4,13 +4,12 @@
 use crate::fragment::wide;
 use crate::list::wide as byte;
 use question::List;
+use reply::writing::stand_ins;
 ghost use mathlib.Core.Path.{_≡_};
 ghost use mathlib.Core.Bool.{cond};
 ghost use Prim.Native.Nat.{ℕ, _+_, _*_, _/_, _<_, _≤_};
-ghost use lib.ListN.{length, getD, replicate};
-ghost use lib.Dec.{eqb};
+ghost use lib.ListN.{length, replicate};
 ghost use Rattle.meaning.specs.Bytes.{word, sameBytes, labelIs, textIs};
-ghost use Rattle.meaning.specs.Bound.{count};
 ghost use Rattle.meaning.specs.Fragment.{RealRow, Sound, rowsOf};
 ghost use Rattle.meaning.specs.Reply.{laidRun};
 ghost use Rattle.question.specs.Listed.{kindOf, EntryRule, Keeps, listed};
@@ -385,21 +384,6 @@ fn stand_in(rows: &[u32], k: usize) -> usize
     0
 }
 
-// How many stand-ins there are.
-fn stand_ins(rows: &[u32], most: usize) -> usize
-    requires { ⌜ most * 6 ≤ length (now rows) ⌝ }
-    ensures { λ r. ⌜ r ≡ count (stands (now (rows .entry))) most ⌝ }
-    ensures { λ r. ⌜ r ≤ most ⌝ }
-{
-    let mut n = 0;
-    let mut k = 0;
-    while k < most {
-        n += stand_in(rows, k);
-        k += 1;
-    }
-    n
-}
-
 // All rows, from the last to the first.
 fn swept(
     work: &mut [u16],
@@ -417,7 +401,7 @@ fn swept(
     requires { ⌜ most ≡ length (now rows) / 6 ⌝ }
     ensures { λ r. ⌜ Does (now (work .exit)) r (sweepF list (now (text .entry)) (lent (now (rows .entry)) (now (pool .entry))) size most (st (now (work .entry)) 0)) ⌝ }
 {
-    let mut place = stand_ins(rows, most);
+    let mut place = stand_ins(rows);
     let mut n = 0;
     let mut k = most;
     while 0 < k {
@@ -435,7 +419,7 @@ pub struct Steps {
 }
 
 // The formula of a fragment, from a memory that is all zero.
-pub fn formula(list: List, text: &[u8], rows: &[u32], pool: &[u8], work: &mut [u16]) -> Steps
+pub(crate) fn formula(list: List, text: &[u8], rows: &[u32], pool: &[u8], work: &mut [u16]) -> Steps
     requires { ⌜ Ready list (now text) (lent (now rows) (now pool)) (now work) ⌝ }
     ensures { λ r. ⌜ Made (length (now (rows .entry)) / 6 * list .count) (list .count) (laidRun (rowsOf (lent (now (rows .entry)) (now (pool .entry)))) (listed list (now (text .entry)))) (now (work .exit)) (r .count) (r .over) ⌝ }
 {
@@ -449,7 +433,7 @@ pub fn formula(list: List, text: &[u8], rows: &[u32], pool: &[u8], work: &mut [u
 }
 
 // All zero.
-pub fn clear(work: &mut [u16])
+pub(crate) fn clear(work: &mut [u16])
     ensures { λ _. ⌜ now (work .exit) ≡ replicate (length (now (work .entry))) 0 ⌝ }
 {
     let mut i = 0;

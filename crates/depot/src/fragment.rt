@@ -5,7 +5,7 @@ ghost use Prim.Native.Nat.{ℕ, _+_, _*_, _<_, _≤_};
 ghost use lib.ListN.{length, getD};
 ghost use mathlib.Core.List.{List};
 ghost use Rattle.meaning.specs.Says.{Says};
-ghost use Rattle.meaning.specs.Fragment.{num, RealRow, StandIn, RowRule, Sound};
+ghost use Rattle.meaning.specs.Fragment.{RealRow, StandIn, RowRule, Sound};
 ghost use Rattle.depot.specs.Lent.{lent};
 
 pub(crate) fn wide(x: u32) -> usize
@@ -150,7 +150,7 @@ fn rows_ok(rows: &[u32], pool: &[u8], number: u32, count: usize) -> bool
 }
 
 // Whether the fragment of this number keeps the rules.
-pub fn fragment_ok(rows: &[u32], pool: &[u8], number: u32) -> bool
+pub(crate) fn fragment_ok(rows: &[u32], pool: &[u8], number: u32) -> bool
     ensures { λ r. ⌜ Says (Sound number (lent (now (rows .entry)) (now (pool .entry)))) r ⌝ }
 {
     if 31 < number {

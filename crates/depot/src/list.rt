@@ -1,8 +1,7 @@
 // The list's rules (01, "The list of sub-questions").
 use question::List;
 ghost use mathlib.Core.Path.{_≡_};
-ghost use Prim.Native.Nat.{ℕ, _+_, _<_, _≤_};
-ghost use lib.ListN.{length};
+ghost use Prim.Native.Nat.{_+_, _<_, _≤_};
 ghost use Rattle.meaning.specs.Says.{Says};
 ghost use Rattle.question.specs.Listed.{kindOf, EntryRule, Keeps};
 
@@ -60,7 +59,7 @@ fn entry_ok(text: &[u8], i: usize, kind: u8, a: usize, b: usize) -> bool
 }
 
 // Whether the list keeps the rules over the text.
-pub fn list_ok(list: List, text: &[u8]) -> bool
+pub(crate) fn list_ok(list: List, text: &[u8]) -> bool
     ensures { λ r. ⌜ Says (Keeps list (now (text .entry))) r ⌝ }
 {
     let count = list.count;

@@ -1,5 +1,4 @@
 use native.Mathlib.Omega.{arith}
-use mathlib.Core.Path.{_≡_}
 use borrow.Author.Tests.{not-true, not-false}
 use Rattle.meaning.proofs.Says.{says-true, says-false}
 use Rattle.depot.proofs.Answers.{cells-few, refused-list, refused-fragment, refused-memory, answered-late}

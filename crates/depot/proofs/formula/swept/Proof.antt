@@ -1,13 +1,13 @@
 use borrow.Author.Needs.{needs}
 use native.Mathlib.Omega.{arith}
-use mathlib.Core.Path.{_≡_, refl}
+use mathlib.Core.Path.{_≡_, refl, sym, ap, _∙_}
 use Prim.Native.Nat.{_-_, _<_, _≤_}
 use lib.ListN.{length}
 use Rattle.meaning.specs.Bound.{count}
 use Rattle.depot.specs.Lent.{lent}
 use Rattle.depot.specs.Flat.{st, stands, sweepF}
 use Rattle.depot.proofs.Loops.{downward, down-end, delivered-at}
-use Rattle.depot.proofs.Words.{count-less, place-less, count-most}
+use Rattle.depot.proofs.Counts.{count-less, place-less, count-most, ins-count}
 use Rattle.depot.proofs.formula.swept.Statement.{statement}
 use Rattle.depot.proofs.formula.swept.Tie as tie
 
@@ -18,10 +18,10 @@ abbrev μ-loop : tie.MeasureT-loop
 μ-loop work₀ size list text rows pool most place₀ n₀ k₀ work place n k = k
 
 stand-ins-requires : tie.Need-stand-ins-requires Inv-loop μ-loop
-stand-ins-requires c κs = omega arith
+stand-ins-requires c κs = search needs
 
 loop-holds : tie.Need-loop-holds Inv-loop μ-loop
-loop-holds c = (search needs, refl, search needs, c .stand-ins .ensures .0, refl)
+loop-holds c = (search needs, refl, search needs, c .stand-ins .ensures ∙ ins-count (c .before .before .before .before .before .args .rows .now) ∙ ap (count (stands (c .before .before .before .before .before .args .rows .now))) (sym (c .before .before .before .before .before .pre .1 .1 .1 .1)), refl)
 
 sub-k : tie.Need-sub-k Inv-loop μ-loop
 sub-k c = search needs

@@ -1,7 +1,6 @@
 use native.Mathlib.Omega.{arith}
-use mathlib.Core.Path.{_≡_, sym, ap, _∙_}
+use mathlib.Core.Path.{_∙_}
 use Rattle.question.specs.Listed.{kindOf}
-use Rattle.depot.specs.Flat.{valueF}
 use Rattle.depot.proofs.KindTests.{left-reads, right-reads, told-value, both-value}
 use borrow.Author.Needs.{needs}
 use Rattle.depot.proofs.formula.value.Statement.{statement}

@@ -1,5 +1,4 @@
 use native.Mathlib.Omega.{arith}
-use mathlib.Core.Path.{_≡_, refl}
 use Rattle.meaning.specs.Says.{nay}
 use Rattle.meaning.proofs.Says.{says-iff}
 use borrow.Author.Needs.{needs}

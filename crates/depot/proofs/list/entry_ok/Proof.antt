@@ -1,7 +1,5 @@
-use mathlib.Core.Path.{_≡_, ap, sym, subst}
-use mathlib.Core.Bool.{true}
-use Rattle.meaning.specs.Says.{Says, aye}
-use Rattle.question.specs.Listed.{kindOf, EntryRule}
+use Rattle.meaning.specs.Says.{aye}
+use Rattle.question.specs.Listed.{kindOf}
 use Rattle.depot.proofs.Tests.{says-ltb}
 use Rattle.depot.proofs.KindTests.{word-rule, no-rule, two-rule}
 use borrow.Author.Needs.{needs}
