@@ -7,10 +7,10 @@ use mathlib.Core.List.{List}
 use lib.ListN.{length, getD, set}
 use lib.Dec.{eqb, ltb}
 use Rattle.meaning.specs.Bytes.{Bytes, word, labelIs, textIs}
-use Rattle.meaning.specs.Fragment.{Fragment, rowsOf}
+use Rattle.meaning.specs.Fragment.{Fragment, Sound, rowCount, rowsOf}
 use Rattle.meaning.specs.Bound.{count}
 use Rattle.question.specs.declared.List as L
-use Rattle.question.specs.Listed.{Kind, kindOf}
+use Rattle.question.specs.Listed.{Kind, kindOf, Keeps}
 
 -- the memory and the count of steps, 4097 where one did not fit; the same and a reference
 pub record St : Type 0 where
@@ -31,6 +31,13 @@ got m n c = record { mem = m; steps = n; code = c }
 pub record Room (size : ℕ) (m : List ℕ) (n : ℕ) : Type 0 where
   pub room : 4 * size + 12288 ≤ length m
   pub count : n < 4098
+
+-- list and fragment keep their rules, and `size` is rows × entries
+pub record Ruled (l : L.List) (t : Bytes) (F : Fragment) (size : ℕ) : Type 0 where
+  pub number : ℕ
+  pub sound : Sound number F
+  pub keeps : Keeps l t
+  pub cells : size ≡ rowCount F * l .count
 
 -- what a function leaves: the memory, the count and the reference are those of g, or of s
 pub record Gives (m : List ℕ) (n c : ℕ) (g : Got) : Type 0 where

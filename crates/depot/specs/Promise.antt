@@ -24,7 +24,7 @@ OneAnswer = (c : Call) (work out : List ℕ) (r size : ℕ) (w o : List ℕ) (r�
     → Answered c work out r size w o → Answered c work out r′ size′ w′ o′ → Same r size w o r′ size′ w′ o′
 
 -- a call that keeps the rules
-pub record Lawful (c : Call) : Type 0 where
+pub record RulesKept (c : Call) : Type 0 where
   pub keeps : Keeps (c .list) (c .text)
   pub asked : 0 < c .number
   pub sound : Sound (c .part) (c .fragment)
@@ -35,20 +35,20 @@ pub record Roomy (c : Call) (work out : List ℕ) : Type 0 where
   pub room : length (bytes c) ≤ length out
 
 abbrev pub OnlyEight : Type 0
-OnlyEight = (c : Call) (work out : List ℕ) (r size : ℕ) (w o : List ℕ) → Answered c work out r size w o → Lawful c → Roomy c work out
+OnlyEight = (c : Call) (work out : List ℕ) (r size : ℕ) (w o : List ℕ) → Answered c work out r size w o → RulesKept c → Roomy c work out
     → (r ≡ 0) ⊎ ((r ≡ 8) × (4096 < length (laid c .steps)))
 
 abbrev pub NeverEight : Type 0
-NeverEight = (c : Call) (work out : List ℕ) (r size : ℕ) (w o : List ℕ) → Answered c work out r size w o → Lawful c → Roomy c work out
+NeverEight = (c : Call) (work out : List ℕ) (r size : ℕ) (w o : List ℕ) → Answered c work out r size w o → RulesKept c → Roomy c work out
     → NoStandIn (c .fragment) → r ≡ 0
 
 -- the reply laid down is well formed, where it has at most 4,096 steps
 abbrev pub LaidWellFormed : Type 0
-LaidWellFormed = (c : Call) → Lawful c → c .number < 2 ^ 32 → length (laid c .steps) ≤ 4096 → WellFormed (laid c)
+LaidWellFormed = (c : Call) → RulesKept c → c .number < 2 ^ 32 → length (laid c .steps) ≤ 4096 → WellFormed (laid c)
 
 -- entries × (4 × open rows + 2 × stand-ins) bounds its steps
 abbrev pub LaidBound : Type 0
-LaidBound = (c : Call) → Lawful c → (isOpen : ℕ → Bool) → ((k : ℕ) → k < rowCount (c .fragment) → Says (Open (rowsOf (c .fragment)) k) (isOpen k))
+LaidBound = (c : Call) → RulesKept c → (isOpen : ℕ → Bool) → ((k : ℕ) → k < rowCount (c .fragment) → Says (Open (rowsOf (c .fragment)) k) (isOpen k))
     → length (laid c .steps) ≤ stepBound (c .list .count) (rowsOf (c .fragment)) isOpen
 
 -- what an entry of a kind uses of its operands

@@ -10,12 +10,12 @@ ghost use mathlib.Core.Bool.{cond};
 ghost use Prim.Native.Nat.{ℕ, _+_, _*_, _/_, _<_, _≤_};
 ghost use lib.ListN.{length, replicate};
 ghost use Rattle.meaning.specs.Bytes.{word, sameBytes, labelIs, textIs};
-ghost use Rattle.meaning.specs.Fragment.{RealRow, Sound, rowsOf};
+ghost use Rattle.meaning.specs.Fragment.{RealRow, rowsOf};
 ghost use Rattle.meaning.specs.Reply.{laidRun};
 ghost use Rattle.question.specs.Listed.{kindOf, EntryRule, Keeps, listed};
 ghost use Rattle.depot.specs.Formula.{Ready, Made};
 ghost use Rattle.depot.specs.Lent.{lent};
-ghost use Rattle.depot.specs.Flat.{st, Room, Gives, Does, Reads, addF, joinF, notF, truth, testF, valueF, enterF, visitF, stands, standF, rowF, orInto, liftF, pushF, deliverF, sweepF};
+ghost use Rattle.depot.specs.Flat.{st, Room, Ruled, Gives, Does, Reads, addF, joinF, notF, truth, testF, valueF, enterF, visitF, stands, standF, rowF, orInto, liftF, pushF, deliverF, sweepF};
 
 const TRUE: u16 = 4096;
 
@@ -325,9 +325,7 @@ fn row(
     place: usize,
 ) -> usize
     requires { ⌜ Room size (now work) steps ⌝ }
-    requires { ⌜ ((number : ℕ) × Sound number (lent (now rows) (now pool))) ⌝ }
-    requires { ⌜ Keeps list (now text) ⌝ }
-    requires { ⌜ size ≡ length (now rows) / 6 * list .count ⌝ }
+    requires { ⌜ Ruled list (now text) (lent (now rows) (now pool)) size ⌝ }
     requires { ⌜ k < length (now rows) / 6 ⌝ }
     requires { ⌜ place ≤ 512 ⌝ }
     ensures { λ r. ⌜ Does (now (work .exit)) r (rowF list (now (text .entry)) (lent (now (rows .entry)) (now (pool .entry))) size k place (st (now (work .entry)) steps)) ⌝ }
@@ -355,9 +353,7 @@ fn delivered(
     place: usize,
 ) -> usize
     requires { ⌜ Room size (now work) steps ⌝ }
-    requires { ⌜ ((number : ℕ) × Sound number (lent (now rows) (now pool))) ⌝ }
-    requires { ⌜ Keeps list (now text) ⌝ }
-    requires { ⌜ size ≡ length (now rows) / 6 * list .count ⌝ }
+    requires { ⌜ Ruled list (now text) (lent (now rows) (now pool)) size ⌝ }
     requires { ⌜ k < length (now rows) / 6 ⌝ }
     requires { ⌜ place ≤ 512 ⌝ }
     ensures { λ r. ⌜ Does (now (work .exit)) r (deliverF list (now (text .entry)) (lent (now (rows .entry)) (now (pool .entry))) size k place (st (now (work .entry)) steps)) ⌝ }
@@ -395,9 +391,7 @@ fn swept(
     most: usize,
 ) -> usize
     requires { ⌜ 4 * size + 12288 ≤ length (now work) ⌝ }
-    requires { ⌜ ((number : ℕ) × Sound number (lent (now rows) (now pool))) ⌝ }
-    requires { ⌜ Keeps list (now text) ⌝ }
-    requires { ⌜ size ≡ length (now rows) / 6 * list .count ⌝ }
+    requires { ⌜ Ruled list (now text) (lent (now rows) (now pool)) size ⌝ }
     requires { ⌜ most ≡ length (now rows) / 6 ⌝ }
     ensures { λ r. ⌜ Does (now (work .exit)) r (sweepF list (now (text .entry)) (lent (now (rows .entry)) (now (pool .entry))) size most (st (now (work .entry)) 0)) ⌝ }
 {

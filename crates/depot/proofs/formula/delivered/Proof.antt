@@ -1,4 +1,5 @@
 use native.Mathlib.Omega.{arith}
+use mathlib.Core.Path.{_≡_, sym}
 use borrow.Author.Tests.{eq-eqb}
 use Rattle.depot.specs.Flat.{deliverF}
 use Rattle.depot.proofs.Loops.{block, delivered-is}
@@ -30,13 +31,13 @@ wide-requires : tie.Need-wide-requires
 wide-requires c κs = search needs
 
 mul-pushed : tie.Need-mul-pushed
-mul-pushed c = omega (arith, block (c .before .before .before .before .before .before .before .before .before .before .before .before .args .list .count) (c .before .before .before .before .before .before .before .before .before .before .before .before .pre .1 .1 .1 .1 .0))
+mul-pushed c = omega (arith, block (c .before .before .before .before .before .before .before .before .before .before .before .before .args .list .count) (c .before .before .before .before .before .before .before .before .before .before .before .before .pre .1 .1 .0))
 
 mul-pushed-2 : tie.Need-mul-pushed-2
-mul-pushed-2 c = omega (arith, parent-block _ _ (c .before .before .before .before .before .before .before .before .before .before .before .before .pre .1 .0 .1) (c .before .before .before .before .before .before .before .before .before .before .before .before .args .list .count) _ _ (c .before .before .before .before .before .before .before .before .before .before .before .before .pre .1 .1 .1 .1 .0) (c .before .before .before .if1 .left) (c .before .wide .ensures .0), c .before .before .before .before .before .before .before .before .before .before .before .before .pre .1 .1 .1 .0, c .before .before .before .before .before .before .before .before .before .before .before .before .pre .0)
+mul-pushed-2 c = omega (arith, parent-block _ _ (c .before .before .before .before .before .before .before .before .before .before .before .before .pre .1 .0 .sound) (c .before .before .before .before .before .before .before .before .before .before .before .before .args .list .count) _ _ (c .before .before .before .before .before .before .before .before .before .before .before .before .pre .1 .1 .0) (c .before .before .before .if1 .left) (c .before .wide .ensures .0), c .before .before .before .before .before .before .before .before .before .before .before .before .pre .1 .0 .cells, c .before .before .before .before .before .before .before .before .before .before .before .before .pre .0)
 
 pushed-requires : tie.Need-pushed-requires
-pushed-requires c κs = (search needs, (omega (arith, block (c .before .before .before .before .before .before .before .before .before .before .before .before .args .list .count) (c .before .before .before .before .before .before .before .before .before .before .before .before .pre .1 .1 .1 .1 .0), c .before .before .before .before .before .before .before .before .before .before .before .before .pre .1 .1 .1 .0), omega (arith, parent-block _ _ (c .before .before .before .before .before .before .before .before .before .before .before .before .pre .1 .0 .1) (c .before .before .before .before .before .before .before .before .before .before .before .before .args .list .count) _ _ (c .before .before .before .before .before .before .before .before .before .before .before .before .pre .1 .1 .1 .1 .0) (c .before .before .before .if1 .left) (c .before .wide .ensures .0), c .before .before .before .before .before .before .before .before .before .before .before .before .pre .1 .1 .1 .0)))
+pushed-requires c κs = (search needs, (omega (arith, block (c .before .before .before .before .before .before .before .before .before .before .before .before .args .list .count) (c .before .before .before .before .before .before .before .before .before .before .before .before .pre .1 .1 .0), c .before .before .before .before .before .before .before .before .before .before .before .before .pre .1 .0 .cells), omega (arith, parent-block _ _ (c .before .before .before .before .before .before .before .before .before .before .before .before .pre .1 .0 .sound) (c .before .before .before .before .before .before .before .before .before .before .before .before .args .list .count) _ _ (c .before .before .before .before .before .before .before .before .before .before .before .before .pre .1 .1 .0) (c .before .before .before .if1 .left) (c .before .wide .ensures .0), c .before .before .before .before .before .before .before .before .before .before .before .before .pre .1 .0 .cells)))
 
 same-length-2 : tie.Need-same-length-2
 same-length-2 c = search needs

@@ -10,7 +10,7 @@ mul-size : tie.Need-mul-size
 mul-size c = omega (arith, c .before .before .before .before .before .pre .room)
 
 swept-requires : tie.Need-swept-requires
-swept-requires c κs = (c .before .before .before .before .before .before .pre .room, ((c .before .before .before .before .before .before .pre .number, c .before .before .before .before .before .before .pre .sound), (c .before .before .before .before .before .before .pre .keeps, (refl, refl))))
+swept-requires c κs = (c .before .before .before .before .before .before .pre .room, (record { number = c .before .before .before .before .before .before .pre .number; sound = c .before .before .before .before .before .before .pre .sound; keeps = c .before .before .before .before .before .before .pre .keeps; cells = refl }, refl))
 
 same-length : tie.Need-same-length
 same-length c = search needs

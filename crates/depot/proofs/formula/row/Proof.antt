@@ -1,5 +1,6 @@
 use native.Mathlib.Omega.{arith}
 use mathlib.Core.Path.{ap}
+use Prim.Native.Nat.{_*_}
 use mathlib.Core.List.{List}
 use Prim.Native.Nat.{ℕ}
 use borrow.Author.Tests.{eq-eqb, ne-eqb}
@@ -11,7 +12,7 @@ use Rattle.depot.proofs.formula.row.Statement.{statement}
 use Rattle.depot.proofs.formula.row.Tie as tie
 
 mul-at : tie.Need-mul-at
-mul-at c = omega (arith, block (c .before .before .before .before .args .list .count) (c .before .before .before .before .pre .1 .1 .1 .1 .0))
+mul-at c = omega (arith, block (c .before .before .before .before .args .list .count) (c .before .before .before .before .pre .1 .1 .0))
 
 mul-kind : tie.Need-mul-kind
 mul-kind c = search needs
@@ -29,10 +30,10 @@ mul-stood : tie.Need-mul-stood
 mul-stood c = search needs
 
 mul-stood-2 : tie.Need-mul-stood-2
-mul-stood-2 c = omega (arith, few (c .before .before .before .before .before .before .before .pre .1 .1 .1 .1 .1) (c .before .before .before .before .before .before .before .pre .1 .1 .0 .most))
+mul-stood-2 c = omega (arith, few (c .before .before .before .before .before .before .before .pre .1 .1 .1) (c .before .before .before .before .before .before .before .pre .1 .0 .keeps .most))
 
 stood-requires : tie.Need-stood-requires
-stood-requires c κs = (omega arith, (omega (arith, block (c .before .before .before .before .before .before .before .args .list .count) (c .before .before .before .before .before .before .before .pre .1 .1 .1 .1 .0)), (c .before .before .before .before .before .before .before .pre .1 .1 .0 .most, few (c .before .before .before .before .before .before .before .pre .1 .1 .1 .1 .1) (c .before .before .before .before .before .before .before .pre .1 .1 .0 .most))))
+stood-requires c κs = (omega arith, (omega (arith, block (c .before .before .before .before .before .before .before .args .list .count) (c .before .before .before .before .before .before .before .pre .1 .1 .0)), (c .before .before .before .before .before .before .before .pre .1 .0 .keeps .most, few (c .before .before .before .before .before .before .before .pre .1 .1 .1) (c .before .before .before .before .before .before .before .pre .1 .0 .keeps .most))))
 
 same-length : tie.Need-same-length
 same-length c = search needs
@@ -42,7 +43,7 @@ unfolding rowF
 returns c = record { is = simp (eq-eqb _ _ (c .before .before .before .before .if1 .taken)) (ap (λ (m : List ℕ). st m (c .before .before .before .before .before .before .before .before .before .before .args .steps)) (c .before .before .stood .ensures)); count = search needs }
 
 visited-requires : tie.Need-visited-requires
-visited-requires c κs = (c .before .before .before .before .before .before .before .pre .0, (omega (arith, block (c .before .before .before .before .before .before .before .args .list .count) (c .before .before .before .before .before .before .before .pre .1 .1 .1 .1 .0)), (omega arith, (sound-real _ _ (c .before .before .before .before .before .before .before .pre .1 .0 .1) _ (c .before .before .before .before .before .before .before .pre .1 .1 .1 .1 .0) (c .before .if1 .left), c .before .before .before .before .before .before .before .pre .1 .1 .0))))
+visited-requires c κs = (c .before .before .before .before .before .before .before .pre .0, (omega (arith, block (c .before .before .before .before .before .before .before .args .list .count) (c .before .before .before .before .before .before .before .pre .1 .1 .0)), (omega arith, (sound-real _ _ (c .before .before .before .before .before .before .before .pre .1 .0 .sound) _ (c .before .before .before .before .before .before .before .pre .1 .1 .0) (c .before .if1 .left), c .before .before .before .before .before .before .before .pre .1 .0 .keeps))))
 
 same-length-2 : tie.Need-same-length-2
 same-length-2 c = search needs

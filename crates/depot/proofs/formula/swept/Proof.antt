@@ -21,7 +21,7 @@ stand-ins-requires : tie.Need-stand-ins-requires Inv-loop μ-loop
 stand-ins-requires c κs = search needs
 
 loop-holds : tie.Need-loop-holds Inv-loop μ-loop
-loop-holds c = (search needs, refl, search needs, c .stand-ins .ensures ∙ ins-count (c .before .before .before .before .before .args .rows .now) ∙ ap (count (stands (c .before .before .before .before .before .args .rows .now))) (sym (c .before .before .before .before .before .pre .1 .1 .1 .1)), refl)
+loop-holds c = (search needs, refl, search needs, c .stand-ins .ensures ∙ ins-count (c .before .before .before .before .before .args .rows .now) ∙ ap (count (stands (c .before .before .before .before .before .args .rows .now))) (sym (c .before .before .before .before .before .pre .1 .1)), refl)
 
 sub-k : tie.Need-sub-k Inv-loop μ-loop
 sub-k c = search needs
@@ -33,7 +33,7 @@ sub-place : tie.Need-sub-place Inv-loop μ-loop
 sub-place c = omega (arith, count-less _ _ (c .before .loop-test .taken) (c .before .before .loop .inv .3) (c .stand-in .ensures .0))
 
 delivered-requires : tie.Need-delivered-requires Inv-loop μ-loop
-delivered-requires c κs = (search needs, (c .before .before .before .before .before .before .before .before .before .pre .1 .0, (c .before .before .before .before .before .before .before .before .before .pre .1 .1 .0, (c .before .before .before .before .before .before .before .before .before .pre .1 .1 .1 .0, (omega arith, omega (arith, place-less _ _ (c .before .before .loop-test .taken) (c .before .before .before .loop .inv .3) (c .before .stand-in .ensures .0), count-most (stands (c .before .before .before .before .before .before .before .before .before .args .rows .now)) (c .before .before .before .loop .k - 1), c .before .before .before .before .before .before .before .before .before .pre .1 .0 .1 .rows-most))))))
+delivered-requires c κs = (search needs, (c .before .before .before .before .before .before .before .before .before .pre .1 .0, (omega arith, omega (arith, place-less _ _ (c .before .before .loop-test .taken) (c .before .before .before .loop .inv .3) (c .before .stand-in .ensures .0), count-most (stands (c .before .before .before .before .before .before .before .before .before .args .rows .now)) (c .before .before .before .loop .k - 1), c .before .before .before .before .before .before .before .before .before .pre .1 .0 .sound .rows-most))))
 
 loop-less : tie.Need-loop-less Inv-loop μ-loop
 loop-less c = search needs
