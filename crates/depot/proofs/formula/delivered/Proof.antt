@@ -1,5 +1,4 @@
 use native.Mathlib.Omega.{arith}
-use mathlib.Core.Path.{_≡_, sym}
 use borrow.Author.Tests.{eq-eqb}
 use Rattle.depot.specs.Flat.{deliverF}
 use Rattle.depot.proofs.Loops.{block, delivered-is}
