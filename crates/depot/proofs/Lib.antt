@@ -1,0 +1,16 @@
+pub mod Rules
+pub mod KindTests
+pub mod Loops
+pub mod Words
+pub mod Counts
+pub mod Held
+pub mod Grows
+pub mod Visits
+pub mod Pushes
+pub mod Sweeps
+pub mod Ins
+pub mod Shape
+pub mod Laid
+pub mod Kept
+pub mod Answers
+pub mod Promised

@@ -1,0 +1,181 @@
+-- The proofs of what `specs/Promise.antt` promises.
+use Prim.Native.Nat.{ℕ, zero, suc, _+_, _*_, _<_, _≤_}
+use native.Mathlib.Omega.{arith}
+use mathlib.Core.Path.{_≡_, refl, sym, ap, _∙_, subst}
+use mathlib.Core.Bool.{cond}
+use mathlib.Core.Logic.{_⊎_, inl, inr}
+use mathlib.Core.List.{List, _∷_, _++_}
+use lib.ListN.{length, getD, drop}
+use lib.Dec.{eqb}
+use native.Mathlib.Decide.{decLt}
+use Rattle.meaning.specs.Bytes.{Bytes, word}
+use Rattle.meaning.specs.Entry.{Entry}
+use Rattle.meaning.specs.Formula.{Ref}
+use Rattle.meaning.specs.Fragment.{Fragment, rowCount, rowsOf}
+use Rattle.meaning.specs.Bound.{stepBound}
+use Rattle.meaning.specs.Reply.{tabulated, laidDown}
+use Rattle.meaning.proofs.Bound.{step-bound}
+use Rattle.question.specs.declared.List as L
+use Rattle.question.specs.Listed.{Kind, kindOf, EntryRule, Keeps, entryOf, listed}
+use Rattle.reply.specs.WellFormed.{Result, vars}
+use Rattle.reply.specs.Write.{write}
+use Rattle.reply.proofs.Lists.{tab-length, tab-at}
+use Rattle.depot.specs.Answer.{Call, call, laid, bytes, Unless, refused, passed, Taken, taken, Late, Refusal, Answered, memoryAfter, bufferAfter}
+use Rattle.depot.specs.Promise.{OneAnswer, OnlyEight, NeverEight, LaidWellFormed, LaidBound, SameUse, Agree, UnusedIgnored}
+use Rattle.depot.proofs.Kept.{ins-few, whole}
+use Rattle.depot.proofs.Laid.{keeps-earlier, ins-fit, ins-differ, no-steps}
+use Rattle.depot.proofs.Sweeps.{listed-length}
+
+-- ONE ANSWER
+unless-one : {n : ℕ} {A : Type 0} (P : ℕ → Type 0) → ((r r′ : ℕ) → P r → P r′ → r ≡ r′) → (r r′ : ℕ) → Unless n A P r → Unless n A P r′ → r ≡ r′
+unless-one P h r r′ (refused a) (refused b) = refl
+unless-one P h r r′ (refused a) (passed b q) = absurd (a b)
+unless-one P h r r′ (passed a p) (refused b) = absurd (b a)
+unless-one P h r r′ (passed a p) (passed b q) = h r r′ p q
+
+taken-one : (r r′ : ℕ) → Taken r → Taken r′ → r ≡ r′
+taken-one r r′ taken taken = refl
+
+refusal-one : (c : Call) (work out : List ℕ) (r r′ : ℕ) → Refusal c work out r → Refusal c work out r′ → r ≡ r′
+refusal-one c work out = unless-one _ (unless-one _ (unless-one _ (unless-one _ (unless-one _ taken-one))))
+
+pub one-answer : OneAnswer
+one-answer c work out r size w o r′ size′ w′ o′ a b =
+    let e = refusal-one c work out r r′ (a .refusal) (b .refusal) in (
+      e,
+      a .size-is ∙ ap (λ r. cond (eqb r 0) (length (bytes c)) 0) e ∙ sym (b .size-is),
+      a .memory ∙ ap (λ r. memoryAfter r work) e ∙ sym (b .memory),
+      a .buffer ∙ ap (λ r. bufferAfter c r out) e ∙ sym (b .buffer),
+    )
+
+-- ONLY EIGHT
+unless-passed : {n : ℕ} {A : Type 0} {P : ℕ → Type 0} {r : ℕ} → A → Unless n A P r → P r
+unless-passed a (refused h) = absurd (h a)
+unless-passed a (passed b p) = p
+
+unless-map : {n : ℕ} {A B : Type 0} {P Q : ℕ → Type 0} {r : ℕ} → (A → B) → (B → A) → (P r → Q r) → Unless n A P r → Unless n B Q r
+unless-map f g h (refused a) = refused (λ b. a (g b))
+unless-map f g h (passed a p) = passed (f a) (h p)
+
+last-two : (c : Call) (out : List ℕ) (r : ℕ) → length (bytes c) ≤ length out → Late c out r → (r ≡ 0) ⊎ ((r ≡ 8) × (4096 < length (laid c .steps)))
+last-two c out r h (refused a) = inr (refl, few)
+  where
+    few : 4096 < length (laid c .steps)
+    few = elim (decLt 4096 (length (laid c .steps))) [ yes k ↦ k | no k ↦ absurd (a (omega arith)) ]
+last-two c out r h (passed a p) = inl (done r (unless-passed h p))
+  where
+    done : (r : ℕ) → Taken r → r ≡ 0
+    done r taken = refl
+
+pub only-eight : OnlyEight
+only-eight c work out r size w o a l m = last-two c out r (m .room) (unless-passed (m .memory) (unless-passed (l .sound) (unless-passed (l .keeps, l .asked) (a .refusal))))
+
+pub never-eight : NeverEight
+unfolding laidDown
+never-eight c work out r size w o a l m none = go (only-eight c work out r size w o a l m)
+  where
+    go : (r ≡ 0) ⊎ ((r ≡ 8) × (4096 < length (laid c .steps))) → r ≡ 0
+    go (inl e) = e
+    go (inr e) = absurd (omega (arith, e .1, no-steps (c .part) (c .fragment) (l .sound) none (listed (c .list) (c .text)) (keeps-earlier (c .list) (c .text) (l .keeps)) (c .number)))
+
+-- WELL FORMED
+pub laid-well-formed : LaidWellFormed
+unfolding laidDown vars
+laid-well-formed c l small few =
+    let w = whole (c .part) (c .fragment) (l .sound) (c .list) (c .text) (l .keeps) in record {
+      asked = l .asked;
+      number-fits = small;
+      fragment-fits = omega (arith, l .sound .number-most);
+      some-entry = rw listed-length (omega (arith, l .keeps .some-entry));
+      few-entries = rw listed-length (l .keeps .most);
+      v-all = tab-length _ _ _;
+      d-all = tab-length _ _ _;
+      few-ins = omega (arith, ins-few (c .part) (c .fragment) (l .sound) (c .list) (c .text) (l .keeps));
+      ins-fit = ins-fit (c .part) (c .fragment) (l .sound);
+      ins-differ = ins-differ (c .part) (c .fragment) (l .sound);
+      few-steps = few;
+      operands = w .good .each;
+      v-good = λ e h. subst (Result _ _) (sym (tab-at _ e _ Ref.low h)) (w .near e h);
+      d-good = λ e h. subst (Result _ _) (sym (tab-at _ e _ Ref.low h)) (w .far e h);
+    }
+
+pub laid-bound : LaidBound
+unfolding laidDown
+laid-bound c l isOpen tells =
+    subst (λ n. length (laid c .steps) ≤ stepBound n (rowsOf (c .fragment)) isOpen) (listed-length (c .list) (c .text))
+    (step-bound (c .part) (c .fragment) (l .sound) (listed (c .list) (c .text)) (keeps-earlier (c .list) (c .text) (l .keeps)) isOpen tells)
+
+-- WHAT IS NOT USED
+same-entry : (t : Bytes) (q : Kind) (a b a′ b′ : ℕ) → SameUse q a b a′ b′ → entryOf t q a b ≡ entryOf t q a′ b′
+same-entry t Kind.self a b a′ b′ h = refl
+same-entry t Kind.label a b a′ b′ h = λ i. Entry.label (word t (h .0 i) (h .1 i))
+same-entry t Kind.text a b a′ b′ h = λ i. Entry.text (word t (h .0 i) (h .1 i))
+same-entry t Kind.child a b a′ b′ h = ap Entry.child h
+same-entry t Kind.at a b a′ b′ h = λ i. Entry.at (h .0 i) (h .1 i)
+same-entry t Kind.lower a b a′ b′ h = ap Entry.lower h
+same-entry t Kind.or a b a′ b′ h = λ i. Entry.or (h .0 i) (h .1 i)
+same-entry t Kind.and a b a′ b′ h = λ i. Entry.and (h .0 i) (h .1 i)
+same-entry t Kind.not a b a′ b′ h = ap Entry.not h
+same-entry t Kind.unknown a b a′ b′ h = refl
+
+same-rule : (t : Bytes) (i : ℕ) (q : Kind) (a b a′ b′ : ℕ) → SameUse q a b a′ b′ → EntryRule t i q a b ≡ EntryRule t i q a′ b′
+same-rule t i Kind.self a b a′ b′ h = refl
+same-rule t i Kind.label a b a′ b′ h = λ j. (h .1 j ≤ 64) × (h .0 j + h .1 j ≤ length t)
+same-rule t i Kind.text a b a′ b′ h = λ j. (h .1 j ≤ 64) × (h .0 j + h .1 j ≤ length t)
+same-rule t i Kind.child a b a′ b′ h = ap (λ a. a < i) h
+same-rule t i Kind.at a b a′ b′ h = λ j. (h .0 j < i) × (h .1 j < i)
+same-rule t i Kind.lower a b a′ b′ h = ap (λ a. a < i) h
+same-rule t i Kind.or a b a′ b′ h = λ j. (h .0 j < i) × (h .1 j < i)
+same-rule t i Kind.and a b a′ b′ h = λ j. (h .0 j < i) × (h .1 j < i)
+same-rule t i Kind.not a b a′ b′ h = ap (λ a. a < i) h
+same-rule t i Kind.unknown a b a′ b′ h = refl
+
+tabulated-same : {X : Type 0} (n k : ℕ) (f g : ℕ → X) → ((i : ℕ) → i < n + k → f i ≡ g i) → tabulated n k f ≡ tabulated n k g
+unfolding tabulated
+tabulated-same zero k f g h = refl
+tabulated-same (suc n) k f g h = λ i. h k (omega arith) i ∷ tabulated-same n (suc k) f g (λ j l. h j (omega arith)) i
+
+module _ (l l′ : L.List) (a : Agree l l′) (t : Bytes) where
+  rule-is : (i : ℕ) → i < l .count → EntryRule t i (kindOf (getD (l .kinds) i 0)) (getD (l .left) i 0) (getD (l .right) i 0) ≡ EntryRule t i (kindOf (getD (l′ .kinds) i 0)) (getD (l′ .left) i 0) (getD (l′ .right) i 0)
+  rule-is i h = same-rule t i (kindOf (getD (l .kinds) i 0)) (getD (l .left) i 0) (getD (l .right) i 0) (getD (l′ .left) i 0) (getD (l′ .right) i 0) (a .uses i h) ∙ ap (λ k. EntryRule t i (kindOf k) (getD (l′ .left) i 0) (getD (l′ .right) i 0)) (a .kinds i h)
+
+  keeps-on : Keeps l t → Keeps l′ t
+  keeps-on k = record {
+    some-entry = subst (λ n. 1 ≤ n) (a .count) (k .some-entry);
+    most = subst (λ n. n ≤ 32) (a .count) (k .most);
+    each = λ i h. let j : i < l .count = subst (λ n. i < n) (sym (a .count)) h in subst (λ (T : Type 0). T) (rule-is i j) (k .each i j);
+  }
+
+  keeps-back : Keeps l′ t → Keeps l t
+  keeps-back k = record {
+    some-entry = subst (λ n. 1 ≤ n) (sym (a .count)) (k .some-entry);
+    most = subst (λ n. n ≤ 32) (sym (a .count)) (k .most);
+    each = λ i h. subst (λ (T : Type 0). T) (sym (rule-is i h)) (k .each i (subst (λ n. i < n) (a .count) h));
+  }
+
+  listed-same : listed l t ≡ listed l′ t
+  unfolding listed
+  listed-same =
+      tabulated-same (l .count) 0 _ _ (λ i h.
+      let j : i < l .count = omega arith in
+      same-entry t (kindOf (getD (l .kinds) i 0)) (getD (l .left) i 0) (getD (l .right) i 0) (getD (l′ .left) i 0) (getD (l′ .right) i 0) (a .uses i j) ∙ ap (λ k. entryOf t (kindOf k) (getD (l′ .left) i 0) (getD (l′ .right) i 0)) (a .kinds i j))
+      ∙ ap (λ n. tabulated n 0 (λ i. entryOf t (kindOf (getD (l′ .kinds) i 0)) (getD (l′ .left) i 0) (getD (l′ .right) i 0))) (a .count)
+
+  module _ (F : Fragment) (part number : ℕ) (work out : List ℕ) where
+    laid-same : laid (call l t F part number) ≡ laid (call l′ t F part number)
+    laid-same = ap (λ es. laidDown (rowsOf F) es number part) listed-same
+
+    answered-on : {r size : ℕ} {w o : List ℕ} → Answered (call l t F part number) work out r size w o → Answered (call l′ t F part number) work out r size w o
+    answered-on {r} {size} {w} {o} x = record {
+      refusal = unless-map (λ k. (keeps-on (k .0), k .1)) (λ k. (keeps-back (k .0), k .1))
+          (unless-map (λ s. s) (λ s. s)
+          (unless-map (subst (λ n. 4 * (rowCount F * n) + 12288 ≤ length work) (a .count)) (subst (λ n. 4 * (rowCount F * n) + 12288 ≤ length work) (sym (a .count)))
+          (subst (λ y. Unless 8 (length (y .steps) ≤ 4096) (Unless 9 (length (write 12 y) ≤ length out) Taken) r) laid-same))) (x .refusal);
+      size-is = x .size-is ∙ ap (λ y. cond (eqb r 0) (length (write 12 y)) 0) laid-same;
+      memory = x .memory;
+      buffer = x .buffer ∙ ap (λ y. cond (eqb r 0) (write 12 y ++ drop (length (write 12 y)) out) out) laid-same;
+    }
+
+pub unused-ignored : UnusedIgnored
+unused-ignored l l′ a t F part number work out r size w o r′ size′ w′ o′ x y =
+    one-answer (call l′ t F part number) work out r size w o r′ size′ w′ o′ (answered-on l l′ a t F part number work out x) y
