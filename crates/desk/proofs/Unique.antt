@@ -10,7 +10,7 @@ use Rattle.meaning.specs.Reply.{Reply}
 use Rattle.reply.specs.Read.{Is}
 use Rattle.desk.specs.Refused.{Unless, Granted}
 use Rattle.desk.specs.Whole.{Whole, Heard, Shaped}
-use Rattle.desk.specs.Calls.{Opens, Accepts, Asks, Why, AskRefusal}
+use Rattle.desk.specs.Calls.{Opens, Accepts, Asks, Why, OpenRefusal, AskRefusal}
 use Rattle.desk.specs.Promise.{OneOpening, OneAccepting, OneAsking}
 use Rattle.desk.specs.declared.Record.{Record}
 
@@ -32,6 +32,9 @@ through h (Unless.passed a p) = (a, p)
 
 pub one-why : (d : Record) (store s : Bytes) → One (Why d store s)
 one-why d store s = one-unless (one-unless (one-unless (one-unless (one-unless (one-unless (one-unless one-granted))))))
+
+pub one-open-refusal : (d : Record) (layout : Bytes) (entries number : ℕ) → One (OpenRefusal d layout entries number)
+one-open-refusal d layout entries number = one-unless (one-unless one-granted)
 
 pub one-ask-refusal : (d : Record) (store : Bytes) → One (AskRefusal d store)
 one-ask-refusal d store = one-unless (one-unless one-granted)
@@ -64,7 +67,7 @@ pub one-opening : OneOpening
 one-opening d layout entries number m n a b p q = (e, go (ℕ-discrete m 0))
   where
     e : m ≡ n
-    e = one-unless (one-unless one-granted) m n (p .why) (q .why)
+    e = one-open-refusal d layout entries number m n (p .why) (q .why)
 
     go : Dec (m ≡ 0) → a ≡ b
     go (yes z) = p .opened z ∙ sym (q .opened (sym e ∙ z))

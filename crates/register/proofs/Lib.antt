@@ -1,3 +1,6 @@
 pub mod Sums
 pub mod Verdicts
 pub mod Trace
+pub mod Alone
+pub mod Conditions
+pub mod Boxed

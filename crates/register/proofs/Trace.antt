@@ -28,12 +28,12 @@ use Rattle.register.specs.Promise.{Faithful, Condition3}
 use Rattle.register.proofs.Sums.{weigh, more, empty}
 use Rattle.register.proofs.Verdicts.{heardBit, Ready, sizeOf, many, is-laid, same-reply, laid-fragment, told, takes, repeats, no-reply, foreign, waits-for, answers, bit-on, silent}
 
-abbrev isHanded : Event → Bool
+abbrev pub isHanded : Event → Bool
 isHanded (Event.handed s n) = true
 isHanded (Event.asked n x) = false
 isHanded (Event.opening layout entries number n) = false
 
-abbrev handedBytes : Event → Bytes
+abbrev pub handedBytes : Event → Bytes
 handedBytes (Event.handed s n) = s
 handedBytes (Event.asked n x) = []
 handedBytes (Event.opening layout entries number n) = []
