@@ -5,7 +5,7 @@ use native.Mathlib.Decide.{ℕ-discrete, decLt}
 use mathlib.Core.Path.{_≡_, refl, sym, ap, _∙_, subst}
 use mathlib.Core.Logic.{_≢_}
 use mathlib.Core.List.{List, _++_}
-use lib.ListN.{length, getD, set, take, drop, replicate, length-append, length-take, length-drop, take-append-drop, getD-replicate}
+use lib.ListN.{length, getD, set, take, drop, replicate, length-append, length-drop, take-append-drop, getD-replicate}
 use lib.Seq.{length-take-le, take-append-le, drop-append-le, take-append-seam, drop-at, take-at, getD-set-same, getD-set-other}
 use Rattle.meaning.specs.Bytes.{Bytes}
 use Rattle.meaning.specs.Reply.{Reply}
@@ -79,7 +79,7 @@ module _ (d : Record) (store s : Bytes) (wide : Sizes (d .question)) (p : Passed
   q′ = noted d f (length s) .question
 
   pub low : f < 32
-  low = omega (arith, p .shaped .fragment-in, o .rules .few-parts, length-take (q .parts) (q .layout))
+  low = omega (arith, p .shaped .fragment-in, o .rules .few-parts)
 
   pub set-other : (l : List ℕ) (x : ℕ) {g : ℕ} → g ≢ f → getD (set l f x) g 0 ≡ getD l g 0
   set-other l x {g} n = getD-set-other l f g x 0 n

@@ -94,7 +94,7 @@ module _ (R : Round) (a : Asked R) where
     shaped : (f : ℕ) → f < many → Shaped (d .question) (replyOf R f)
     unfolding laidDown
     shaped f h = record {
-      fragment-in = rw (w .layout-is) h;
+      fragment-in = rw (w .parts-is) h;
       entries-same = laid-entries f ∙ sym (w .entries-is);
       children = rw (w .layout-is) (children (R .register) (a .cut) f h);
     }
