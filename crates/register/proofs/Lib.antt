@@ -4,3 +4,5 @@ pub mod Trace
 pub mod Alone
 pub mod Conditions
 pub mod Boxed
+pub mod Tried
+pub mod Table

@@ -2,3 +2,4 @@
 pub mod Calls
 pub mod Round
 pub mod Promise
+pub mod Trial
