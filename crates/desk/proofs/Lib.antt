@@ -1,0 +1,1 @@
+-- The laws of the definitions in specs/, and the proofs of what `specs/Promise.antt` promises.
