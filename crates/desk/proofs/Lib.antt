@@ -1,1 +1,4 @@
 -- The laws of the definitions in specs/, and the proofs of what `specs/Promise.antt` promises.
+pub mod Tiles
+pub mod Children
+pub mod Pieces

@@ -30,7 +30,7 @@ pub record Rules (q : Question) : Type 0 where
 -- ---- a reply
 -- fragment in the layout, the same entry count, stand-ins exactly its children
 pub record Shaped (q : Question) (r : Reply) : Type 0 where
-  pub fragment-in : r .fragment < length (layoutOf q)
+  pub fragment-in : r .fragment < q .parts
   pub entries-same : r .entries ≡ q .entries
   pub children : (g : ℕ) → List·Memᴰ g (r .ins) ↔ List·Memᴰ g (childrenOf (layoutOf q) (r .fragment))
 

@@ -108,6 +108,13 @@ fn all_children(s: &[u8], k: usize, layout: &[u8], fragment: usize) -> bool
     true
 }
 
+// The layout's array, with its length.
+fn parents(q: Question) -> [u8; 32]
+    ensures { λ r. ⌜ (r ≡ q .layout) × (length r ≡ 32) ⌝ }
+{
+    q.layout
+}
+
 // The first of 13, 14, 15 that applies to the bytes s, or 0.
 pub fn judge(q: Question, s: &[u8]) -> u8
     requires { ⌜ q .parts ≤ 32 ⌝ }
@@ -129,7 +136,7 @@ pub fn judge(q: Question, s: &[u8]) -> u8
     if h.entries != q.entries {
         return 15;
     }
-    let l = q.layout;
+    let l = parents(q);
     if !only_children(s, k, &l[0..parts], f) {
         return 15;
     }
@@ -314,7 +321,7 @@ fn rules(q: Question) -> bool
     if 32 < q.entries {
         return false;
     }
-    let l = q.layout;
+    let l = parents(q);
     layout_ok(&l[0..parts])
 }
 
