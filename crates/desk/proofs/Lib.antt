@@ -2,3 +2,5 @@
 pub mod Tiles
 pub mod Children
 pub mod Pieces
+pub mod Formulas
+pub mod Replies
