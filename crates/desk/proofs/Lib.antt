@@ -4,3 +4,4 @@ pub mod Children
 pub mod Pieces
 pub mod Formulas
 pub mod Replies
+pub mod Answers
