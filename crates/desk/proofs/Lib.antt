@@ -5,3 +5,5 @@ pub mod Pieces
 pub mod Formulas
 pub mod Replies
 pub mod Answers
+pub mod Truths
+pub mod Calling

@@ -1,60 +1,71 @@
+-- `desk::accepted` meets its contract.
+use Prim.Native.Nat.{ℕ, zero, suc, _+_, _-_, _*_, _/_, _%_, _^_, _≤_, _<_}
+use mathlib.Core.Path.{_≡_, refl, sym, ap, _∙_, subst}
+use mathlib.Core.Bool.{Bool, true, false}
+use mathlib.Core.List.{[]}
+use mathlib.Core.Logic.{_⊎_, inl, inr, ⊎-elim}
+use native.Mathlib.Omega.{arith}
+use native.Mathlib.Numerals.{add-one}
+use lib.ListN.{length, getD, set, take, drop, replicate, length-set, length-take, length-drop}
+use lib.Seq.{getD-set-same, getD-set-other}
+use Rattle.meaning.specs.Says.{Says, aye, nay}
+use Rattle.meaning.proofs.Says.{says-iff, says-true, says-false}
+use Rattle.meaning.specs.Register.{parentOf, Layout}
+use Rattle.meaning.specs.Formula.{refValue, stepValue, stepValues}
+use Rattle.meaning.specs.Reply.{tabulated}
+use Rattle.reply.specs.Read.{refFrom, stepFrom, refAt, stepAt, insTo, inAt, entriesOf, insOf, stepsOf, decoded}
+use Rattle.reply.specs.Sound.{Sound, RefOk, StepOk, RefGood, varsOf}
+use Rattle.reply.proofs.Tests.{says-lt, says-le, says-eq, says-ne, says-yes, says-no}
+use Rattle.reply.proofs.Lists.{up-to-suc}
+use Rattle.desk.specs.Whole.{layoutOf, Rules, Heard, placeOf, sizeOf, partOf, Laid, Opened, Whole}
+use Rattle.desk.specs.Steps.{StandsFor, Judged, Starts, Apart, PartOk, FragmentOk}
+use Rattle.desk.specs.Values.{truths, valuesIn, variableOf, rowOf, RowPut, Agree, AllHeard, kept, answerOf}
+use Rattle.desk.proofs.Calling.{why-taken, taken-long, put-back, accepts}
+use Rattle.desk.specs.Calls.{Why}
 use borrow.Author.Needs.{needs}
 use Rattle.desk.proofs.accepted.Statement.{statement}
 use Rattle.desk.proofs.accepted.Tie as tie
-use Rattle.desk.proofs.accepted.Reads as reads
-use Rattle.desk.proofs.accepted.Lts as lts
-use Rattle.bytes.proofs.copy.Reads as copy-reads
-use Rattle.desk.proofs.noted_in.Reads as noted-in-reads
-use Rattle.desk.proofs.why.Reads as why-reads
-use Rattle.reply.proofs.header.Reads as header-reads
 
--- src/lib.rt:189:9
 why-requires : tie.Need-why-requires
 why-requires c κs = search needs
 
--- src/lib.rt:191:9
 same-length : tie.Need-same-length
 same-length c = search needs
 
--- src/lib.rt:191:9
 returns : tie.Need-returns
-returns c = ?
+returns c = record { why = c .before .why .ensures; refused = λ n. (refl, refl); taken = λ e. absurd (c .if1 .taken e) }
 
--- src/lib.rt:196:9
 header-requires : tie.Need-header-requires
-header-requires c κs = ?
+header-requires c κs = taken-long (why-taken (c .before .why .ensures) (c .if1 .left))
 
--- src/lib.rt:198:32
 sub-copy : tie.Need-sub-copy
-sub-copy c = ?
+sub-copy c = omega (arith, (why-taken (c .before .before .why .ensures) (c .before .if1 .left)) .room)
 
--- src/lib.rt:198:32
 part-copy-start : tie.Need-part-copy-start
-part-copy-start c = ?
+part-copy-start c = omega (arith, (why-taken (c .before .before .why .ensures) (c .before .if1 .left)) .room)
 
--- src/lib.rt:198:32
 part-copy-end : tie.Need-part-copy-end
 part-copy-end c = search needs
 
--- src/lib.rt:198:9
 copy-requires : tie.Need-copy-requires
-copy-requires c κs = ?
+copy-requires c κs = simp (length-take, length-drop) (omega (arith, (why-taken (c .before .before .before .why .ensures) (c .before .before .if1 .left)) .room))
 
--- src/lib.rt:199:28
 cast-noted-in : tie.Need-cast-noted-in
 cast-noted-in c = search needs
 
--- src/lib.rt:199:9
 noted-in-requires : tie.Need-noted-in-requires
-noted-in-requires c κs = ?
+noted-in-requires c κs = (c .before .before .before .before .before .header .ensures .fragment-lt, omega (arith, (why-taken (c .before .before .before .before .before .before .before .why .ensures) (c .before .before .before .before .before .before .if1 .left)) .room, c .before .before .before .copy .ensures .0))
 
--- src/lib.rt:186:1
 same-length-2 : tie.Need-same-length-2
 same-length-2 c = search needs
 
--- src/lib.rt:186:1
 returns-2 : tie.Need-returns-2
-returns-2 c = ?
+returns-2 c =
+    let d = c .before .before .before .before .before .before .before .before .before .before .before .before .args .desk in
+    let store = c .before .before .before .before .before .before .before .before .before .before .before .before .args .store .now in
+    let s = c .before .before .before .before .before .before .before .before .before .before .before .before .args .reply .now in
+    accepts d store s (c .before .before .before .before .before .before .header .result) (c .before .before .before .before .copy .result) (c .noted-in .result) _ (subst (λ k. Why d store s k) (c .before .before .before .before .before .before .before .if1 .left) (c .before .before .before .before .before .before .before .before .why .ensures)) (c .before .before .before .before .before .before .header .ensures) (c .before .before .before .before .copy .ensures .0) (c .noted-in .ensures .0)
+    (put-back (d .used) store s (c .before .before .before .before .copy .last .1 .0) (c .before .before .before .before .copy .ensures .1))
 
 pub accepted-spec : {M : Type 1} → statement M
 accepted-spec =
