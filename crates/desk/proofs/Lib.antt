@@ -7,3 +7,5 @@ pub mod Replies
 pub mod Answers
 pub mod Truths
 pub mod Calling
+pub mod Unique
+pub mod Keeping

@@ -172,7 +172,7 @@ module _ (q : Question) (used : ℕ) (store : Bytes) where
     fits = r;
     replies = λ f h. k f h .part .reply;
     tiled = tested-tiled (Heard q) (placeOf q) (sizeOf q) used (λ f h. some-size q store f (k f h .part .reply))
-      (record { inside = λ f h. k f h .part .inside; pairs = λ f g h i n. k f h .apart g i n; follows = λ f h. k f h .follows; begins = b });
+        (record { inside = λ f h. k f h .part .inside; pairs = λ f g h i n. k f h .apart g i n; follows = λ f h. k f h .follows; begins = b });
   }
 
 -- ---- whole

@@ -1,5 +1,8 @@
 // Solving the replies held, from the highest fragment down. A truth value is a number: 0 no, 1 yes.
 use crate::Question;
+use crate::whole::is_heard;
+use crate::whole::place_of;
+use crate::whole::size_of;
 use bits::Cursor;
 use reply::HEAD_TO;
 use reply::StepField;
@@ -7,9 +10,6 @@ use reply::header;
 use reply::take_in;
 use reply::take_ref;
 use reply::take_step;
-use crate::whole::is_heard;
-use crate::whole::place_of;
-use crate::whole::size_of;
 ghost use mathlib.Core.Path.{_≡_};
 ghost use mathlib.Core.List.{[]};
 ghost use Prim.Native.Nat.{_+_, _-_, _*_, _^_, _≤_, _<_};

@@ -64,10 +64,13 @@ loop-again c =
     let out = c .before .before .before .loop .out in
     let x = c .value .result in
     let w = ref-from 12 s (at + 14 * e) (c .before .take-ref .result) (rw (c .before .before .before .loop .inv .1) at (c .before .take-ref .ensures)) in
-    let P : ℕ → Type 0 = λ (j : ℕ). getD (set out e x) j 0 ≡ refValue truths (variableOf (c .before .before .before .before .before .args .s .now) (c .before .before .before .before .before .args .v .now) (c .before .before .before .before .before .args .d .now)) (c .before .before .before .before .before .args .values .now) (refAt 12 s (at + 14 * j)) in
-    (omega arith, omega arith, length-set out e x ∙ c .before .before .before .loop .inv .2,
-    (λ j h. up-to-suc P e (λ k l. getD-set-other out e k x 0 (omega arith) ∙ c .before .before .before .loop .inv .3 k l) (getD-set-same out e x 0 (omega (arith, c .before .before .before .loop .inv .2, m .few-entries, c .before .before .before .before .before .pre .1)) ∙ c .value .ensures ∙ ap (refValue truths (variableOf (c .before .before .before .before .before .args .s .now) (c .before .before .before .before .before .args .v .now) (c .before .before .before .before .before .args .d .now)) (c .before .before .before .before .before .args .values .now)) (sym w)) j (omega arith)),
-    (λ j h. getD-set-other out e j x 0 (omega arith) ∙ c .before .before .before .loop .inv .4 j (omega arith)))
+    let P : ℕ → Type 0 = λ (j : ℕ). getD (set out e x) j 0 ≡ refValue truths (variableOf (c .before .before .before .before .before .args .s .now) (c .before .before .before .before .before .args .v .now) (c .before .before .before .before .before .args .d .now)) (c .before .before .before .before .before .args .values .now) (refAt 12 s (at + 14 * j)) in (
+      omega arith,
+      omega arith,
+      length-set out e x ∙ c .before .before .before .loop .inv .2,
+      (λ j h. up-to-suc P e (λ k l. getD-set-other out e k x 0 (omega arith) ∙ c .before .before .before .loop .inv .3 k l) (getD-set-same out e x 0 (omega (arith, c .before .before .before .loop .inv .2, m .few-entries, c .before .before .before .before .before .pre .1)) ∙ c .value .ensures ∙ ap (refValue truths (variableOf (c .before .before .before .before .before .args .s .now) (c .before .before .before .before .before .args .v .now) (c .before .before .before .before .before .args .d .now)) (c .before .before .before .before .before .args .values .now)) (sym w)) j (omega arith)),
+      (λ j h. getD-set-other out e j x 0 (omega arith) ∙ c .before .before .before .loop .inv .4 j (omega arith)),
+    )
 
 returns : tie.Need-returns Inv-loop μ-loop
 returns c =

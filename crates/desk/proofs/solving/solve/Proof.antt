@@ -67,9 +67,10 @@ returns : tie.Need-returns
 returns c =
     let s = c .before .before .before .before .before .before .before .before .args .s .now in
     let q = c .before .before .before .before .before .before .before .before .pre in
-    let H = c .before .before .before .before .before .before .header .ensures in
-    (c .before .before .results .ensures ∙ rw (H .steps-is, H .ins-is, H .entries-is) (row-here s q (c .before .before .before .before .before .before .before .before .args .v .now) (c .before .before .before .before .before .before .before .before .args .d .now) (c .before .before .before .before .step-values .result) (c .before .before .before .before .step-values .ensures)),
-    c .results2 .ensures ∙ rw (H .steps-is, H .ins-is, H .entries-is) (row-lower s q (c .before .before .before .before .before .before .before .before .args .v .now) (c .before .before .before .before .before .before .before .before .args .d .now) (c .before .before .before .before .step-values .result) (c .before .before .before .before .step-values .ensures)))
+    let H = c .before .before .before .before .before .before .header .ensures in (
+      c .before .before .results .ensures ∙ rw (H .steps-is, H .ins-is, H .entries-is) (row-here s q (c .before .before .before .before .before .before .before .before .args .v .now) (c .before .before .before .before .before .before .before .before .args .d .now) (c .before .before .before .before .step-values .result) (c .before .before .before .before .step-values .ensures)),
+      c .results2 .ensures ∙ rw (H .steps-is, H .ins-is, H .entries-is) (row-lower s q (c .before .before .before .before .before .before .before .before .args .v .now) (c .before .before .before .before .before .before .before .before .args .d .now) (c .before .before .before .before .step-values .result) (c .before .before .before .before .step-values .ensures)),
+    )
 
 pub solve-spec : {M : Type 1} → statement M
 solve-spec =

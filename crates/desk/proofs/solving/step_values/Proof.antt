@@ -62,10 +62,13 @@ loop-again c =
     let m = small (c .before .before .before .before .before .before .args .s .now) (c .before .before .before .before .before .before .pre .0) in
     let i = c .before .before .before .before .loop .i in
     let at = c .before .before .before .before .before .before .args .at in
-    let e = step-from 12 s (at + 30 * i) (c .before .before .take-step .result) (rw (c .before .before .before .before .loop .inv .1) at (c .before .before .take-step .ensures)) in
-    (omega arith, omega arith, length-set (c .before .before .before .before .loop .values) i (c .step-value .result) ∙ c .before .before .before .before .loop .inv .2,
-    rw add-one (values-more truths (variableOf (c .before .before .before .before .before .before .args .s .now) (c .before .before .before .before .before .before .args .v .now) (c .before .before .before .before .before .before .args .d .now)) (varsOf s) i (stepsFrom s at) (c .before .before .before .before .loop .values) (c .step-value .result) (omega (arith, m .few-steps, c .before .before .before .before .before .before .pre .2, c .before .before .before .before .loop .inv .2))
-    (rw (c .before .before .before .before .before .before .pre .3) (operands-at s (c .before .before .before .before .before .before .pre .0) i (omega (arith, c .before .before .before .before .before .before .pre .2)))) (c .before .before .before .before .loop .inv .3) (c .step-value .ensures ∙ ap (stepValue truths (variableOf (c .before .before .before .before .before .before .args .s .now) (c .before .before .before .before .before .before .args .v .now) (c .before .before .before .before .before .before .args .d .now)) (c .before .before .before .before .loop .values)) (sym e))))
+    let e = step-from 12 s (at + 30 * i) (c .before .before .take-step .result) (rw (c .before .before .before .before .loop .inv .1) at (c .before .before .take-step .ensures)) in (
+      omega arith,
+      omega arith,
+      length-set (c .before .before .before .before .loop .values) i (c .step-value .result) ∙ c .before .before .before .before .loop .inv .2,
+      rw add-one (values-more truths (variableOf (c .before .before .before .before .before .before .args .s .now) (c .before .before .before .before .before .before .args .v .now) (c .before .before .before .before .before .before .args .d .now)) (varsOf s) i (stepsFrom s at) (c .before .before .before .before .loop .values) (c .step-value .result) (omega (arith, m .few-steps, c .before .before .before .before .before .before .pre .2, c .before .before .before .before .loop .inv .2))
+          (rw (c .before .before .before .before .before .before .pre .3) (operands-at s (c .before .before .before .before .before .before .pre .0) i (omega (arith, c .before .before .before .before .before .before .pre .2)))) (c .before .before .before .before .loop .inv .3) (c .step-value .ensures ∙ ap (stepValue truths (variableOf (c .before .before .before .before .before .before .args .s .now) (c .before .before .before .before .before .before .args .v .now) (c .before .before .before .before .before .before .args .d .now)) (c .before .before .before .before .loop .values)) (sym e))),
+    )
 
 returns : tie.Need-returns Inv-loop μ-loop
 unfolding decoded

@@ -58,10 +58,12 @@ loop-again c =
     let row = c .before .before .args .t3 in
     let e = c .before .loop .e in
     let x = getD row e 0 in
-    let P : ℕ → Type 0 = λ (j : ℕ). getD (set out (32 * f + e) x) (32 * f + j) 0 ≡ getD row j 0 in
-    (omega arith, length-set out (32 * f + e) x ∙ c .before .loop .inv .1,
-    (λ j h. up-to-suc P e (λ k l. getD-set-other out (32 * f + e) (32 * f + k) x 0 (omega arith) ∙ c .before .loop .inv .2 k l) (getD-set-same out (32 * f + e) x 0 (omega (arith, c .before .loop .inv .1, c .before .before .pre))) j (omega arith)),
-    (λ i k. getD-set-other out (32 * f + e) i x 0 (λ z. ⊎-elim (λ a. omega (arith, c .loop-test .taken)) (λ a. omega (arith, c .loop-test .taken)) k) ∙ c .before .loop .inv .3 i k))
+    let P : ℕ → Type 0 = λ (j : ℕ). getD (set out (32 * f + e) x) (32 * f + j) 0 ≡ getD row j 0 in (
+      omega arith,
+      length-set out (32 * f + e) x ∙ c .before .loop .inv .1,
+      (λ j h. up-to-suc P e (λ k l. getD-set-other out (32 * f + e) (32 * f + k) x 0 (omega arith) ∙ c .before .loop .inv .2 k l) (getD-set-same out (32 * f + e) x 0 (omega (arith, c .before .loop .inv .1, c .before .before .pre))) j (omega arith)),
+      (λ i k. getD-set-other out (32 * f + e) i x 0 (λ z. ⊎-elim (λ a. omega (arith, c .loop-test .taken)) (λ a. omega (arith, c .loop-test .taken)) k) ∙ c .before .loop .inv .3 i k),
+    )
 
 returns : tie.Need-returns Inv-loop μ-loop
 returns c = record { here = λ j l. c .before .loop .inv .2 j (omega (arith, c .loop-test .left)); other = c .before .loop .inv .3 }

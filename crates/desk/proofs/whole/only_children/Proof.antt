@@ -56,9 +56,11 @@ loop-less : tie.Need-loop-less Inv-loop μ-loop
 loop-less c = omega arith
 
 loop-again : tie.Need-loop-again Inv-loop μ-loop
-loop-again c =
-    (omega arith, λ j h. up-to-suc (λ j. (inAt (c .before .before .before .before .before .before .before .before .before .args .s .now) j < length (c .before .before .before .before .before .before .before .before .before .args .layout .now)) × (parentOf (c .before .before .before .before .before .before .before .before .before .args .layout .now) (inAt (c .before .before .before .before .before .before .before .before .before .args .s .now) j) ≡ c .before .before .before .before .before .before .before .before .before .args .fragment)) (c .before .before .before .before .before .before .loop .i) (c .before .before .before .before .before .before .loop .inv .1)
-    (omega (arith, c .before .before .before .if1 .left, c .before .before .before .before .take-in .ensures .in-is), ap (λ g. parentOf (c .before .before .before .before .before .before .before .before .before .args .layout .now) g) (sym (c .before .before .before .before .take-in .ensures .in-is)) ∙ same-at (c .before .before .before .before .before .before .before .before .before .args .layout .now) (c .before .before .before .before .take-in .result) 255 0 (omega arith) ∙ sym (c .before .wide .ensures) ∙ c .if2 .left) j (omega arith))
+loop-again c = (
+  omega arith,
+  λ j h. up-to-suc (λ j. (inAt (c .before .before .before .before .before .before .before .before .before .args .s .now) j < length (c .before .before .before .before .before .before .before .before .before .args .layout .now)) × (parentOf (c .before .before .before .before .before .before .before .before .before .args .layout .now) (inAt (c .before .before .before .before .before .before .before .before .before .args .s .now) j) ≡ c .before .before .before .before .before .before .before .before .before .args .fragment)) (c .before .before .before .before .before .before .loop .i) (c .before .before .before .before .before .before .loop .inv .1)
+      (omega (arith, c .before .before .before .if1 .left, c .before .before .before .before .take-in .ensures .in-is), ap (λ g. parentOf (c .before .before .before .before .before .before .before .before .before .args .layout .now) g) (sym (c .before .before .before .before .take-in .ensures .in-is)) ∙ same-at (c .before .before .before .before .before .before .before .before .before .args .layout .now) (c .before .before .before .before .take-in .result) 255 0 (omega arith) ∙ sym (c .before .wide .ensures) ∙ c .if2 .left) j (omega arith),
+)
 
 returns-3 : tie.Need-returns-3 Inv-loop μ-loop
 returns-3 c = aye (λ j h. c .before .loop .inv .1 j (omega (arith, c .loop-test .left)))

@@ -38,7 +38,6 @@ begins-requires c κs = c .loop-test .taken
 
 returns : tie.Need-returns Inv-loop μ-loop
 returns c =
-    
     let b = says-true (c .before .begins .ensures) (c .if1 .taken) in aye (record { part = c .before .before .before .loop .g; is = b .0; here = b .1 })
 
 add-g : tie.Need-add-g Inv-loop μ-loop
