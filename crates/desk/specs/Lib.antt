@@ -6,3 +6,4 @@ pub mod Changed
 pub mod Calls
 pub mod Steps
 pub mod Values
+pub mod Promise

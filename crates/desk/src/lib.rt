@@ -16,7 +16,6 @@ ghost use lib.ListN.{length};
 ghost use Rattle.meaning.specs.Register.{Layout};
 ghost use Rattle.desk.specs.Calls.{Opens, Why, Accepts, Asks};
 ghost use Rattle.desk.specs.Changed.{blank, openedAs, noted};
-ghost use Rattle.desk.specs.Steps.{Sizes};
 
 // A question: its number (0: none is open), entry count, layout, and for each fragment whether it is heard (0: it is not),
 // where its reply starts in the store and how many bytes it has.
@@ -168,7 +167,7 @@ fn why(desk: Record, store: &[u8], s: &[u8]) -> u8
 // The record once n bytes of fragment f are put at the end of the used part.
 fn noted_in(desk: Record, f: usize, n: usize) -> Record
     requires { ⌜ (f < 32) × (desk .used + n < 2 ^ 64) ⌝ }
-    ensures { λ r. ⌜ (r ≡ noted desk f n) × Sizes (desk .question) ⌝ }
+    ensures { λ r. ⌜ r ≡ noted desk f n ⌝ }
 {
     let used = desk.used;
     let mut q = desk.question;

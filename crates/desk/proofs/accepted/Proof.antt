@@ -64,7 +64,7 @@ returns-2 c =
     let d = c .before .before .before .before .before .before .before .before .before .before .before .before .args .desk in
     let store = c .before .before .before .before .before .before .before .before .before .before .before .before .args .store .now in
     let s = c .before .before .before .before .before .before .before .before .before .before .before .before .args .reply .now in
-    accepts d store s (c .before .before .before .before .before .before .header .result) (c .before .before .before .before .copy .result) (c .noted-in .result) _ (subst (λ k. Why d store s k) (c .before .before .before .before .before .before .before .if1 .left) (c .before .before .before .before .before .before .before .before .why .ensures)) (c .before .before .before .before .before .before .header .ensures) (c .before .before .before .before .copy .ensures .0) (c .noted-in .ensures .0)
+    accepts d store s (c .before .before .before .before .before .before .header .result) (c .before .before .before .before .copy .result) (c .noted-in .result) _ (subst (λ k. Why d store s k) (c .before .before .before .before .before .before .before .if1 .left) (c .before .before .before .before .before .before .before .before .why .ensures)) (c .before .before .before .before .before .before .header .ensures) (c .before .before .before .before .copy .ensures .0) (c .noted-in .ensures)
     (put-back (d .used) store s (c .before .before .before .before .copy .last .1 .0) (c .before .before .before .before .copy .ensures .1))
 
 pub accepted-spec : {M : Type 1} → statement M
