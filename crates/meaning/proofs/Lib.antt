@@ -15,4 +15,3 @@ pub mod Register
 pub mod Solve
 pub mod Lawful
 pub mod Bound
-pub mod Trial

@@ -1,0 +1,60 @@
+-- `desk::opened` meets its contract.
+use Prim.Native.Nat.{ℕ, zero, suc, _+_, _-_, _*_, _/_, _%_, _^_, _≤_, _<_}
+use mathlib.Core.Path.{_≡_, refl, sym, ap, _∙_, subst}
+use mathlib.Core.Bool.{Bool, true, false}
+use mathlib.Core.List.{[]}
+use mathlib.Core.Logic.{_⊎_, inl, inr, ⊎-elim}
+use native.Mathlib.Omega.{arith}
+use native.Mathlib.Numerals.{add-one}
+use lib.ListN.{length, getD, set, take, drop, replicate, length-set, length-take, length-drop}
+use lib.Seq.{getD-set-same, getD-set-other}
+use Rattle.meaning.specs.Says.{Says, aye, nay}
+use Rattle.meaning.proofs.Says.{says-iff, says-true, says-false}
+use Rattle.meaning.specs.Register.{parentOf, Layout}
+use Rattle.meaning.specs.Formula.{refValue, stepValue, stepValues}
+use Rattle.meaning.specs.Reply.{tabulated}
+use Rattle.reply.specs.Read.{refFrom, stepFrom, refAt, stepAt, insTo, inAt, entriesOf, insOf, stepsOf, decoded}
+use Rattle.reply.specs.Sound.{Sound, RefOk, StepOk, RefGood, varsOf}
+use Rattle.reply.proofs.Tests.{says-lt, says-le, says-eq, says-ne, says-yes, says-no}
+use Rattle.reply.proofs.Lists.{up-to-suc}
+use Rattle.desk.specs.Whole.{layoutOf, Rules, Heard, placeOf, sizeOf, partOf, Laid, Opened, Whole}
+use Rattle.desk.specs.Steps.{StandsFor, Judged, Starts, Apart, PartOk, FragmentOk}
+use Rattle.desk.specs.Values.{truths, valuesIn, variableOf, rowOf, RowPut, Agree, AllHeard, kept, answerOf}
+use Rattle.desk.proofs.Calling.{opens-10, opens-11, opens}
+use Rattle.desk.specs.Whole.{Keeps}
+use borrow.Author.Needs.{needs}
+use Rattle.desk.proofs.opened.Statement.{statement}
+use Rattle.desk.proofs.opened.Tie as tie
+
+layout-ok-requires : tie.Need-layout-ok-requires
+layout-ok-requires c κs = search needs
+
+returns : tie.Need-returns
+returns c = opens-10 (c .before .before .before .args .desk) (c .before .before .before .args .layout .now) (c .before .before .before .args .entries) (c .before .before .before .args .number) (λ k. says-no (c .before .layout-ok .ensures) (c .if1 .taken) (k .layout-keeps))
+
+returns-2 : tie.Need-returns-2
+returns-2 c = opens-10 (c .before .before .before .before .args .desk) (c .before .before .before .before .args .layout .now) (c .before .before .before .before .args .entries) (c .before .before .before .before .args .number) (λ k. omega (arith, k .some-entry, c .if2 .taken))
+
+returns-3 : tie.Need-returns-3
+returns-3 c = opens-10 (c .before .before .before .before .before .args .desk) (c .before .before .before .before .before .args .layout .now) (c .before .before .before .before .before .args .entries) (c .before .before .before .before .before .args .number) (λ k. omega (arith, k .few-entries, c .if3 .taken))
+
+returns-4 : tie.Need-returns-4
+returns-4 c = opens-11 (c .before .before .before .before .before .before .before .args .desk) (c .before .before .before .before .before .before .before .args .layout .now) (c .before .before .before .before .before .before .before .args .entries) (c .before .before .before .before .before .before .before .args .number) (record { layout-keeps = says-yes (c .before .before .before .before .before .layout-ok .ensures) (c .before .before .before .before .if1 .left); some-entry = omega arith; few-entries = omega arith }) (c .if4 .taken)
+
+opened-as-requires : tie.Need-opened-as-requires
+opened-as-requires c κs = says-yes (c .before .before .before .before .before .layout-ok .ensures) (c .before .before .before .before .if1 .left) .most
+
+returns-5 : tie.Need-returns-5
+returns-5 c = opens (c .before .before .before .before .before .before .before .before .args .desk) (c .before .before .before .before .before .before .before .before .args .layout .now) (c .before .before .before .before .before .before .before .before .args .entries) (c .before .before .before .before .before .before .before .before .args .number) (c .opened-as .result) (record { layout-keeps = says-yes (c .before .before .before .before .before .before .layout-ok .ensures) (c .before .before .before .before .before .if1 .left); some-entry = omega arith; few-entries = omega arith }) (omega arith) (c .opened-as .ensures)
+
+pub opened-spec : {M : Type 1} → statement M
+opened-spec =
+    tie.close
+    (tie.spec
+    layout-ok-requires
+    returns
+    returns-2
+    returns-3
+    returns-4
+    opened-as-requires
+    returns-5)

@@ -1,0 +1,49 @@
+-- `desk::solving::value` meets its contract.
+use Prim.Native.Nat.{ℕ, zero, suc, _+_, _-_, _*_, _/_, _%_, _^_, _≤_, _<_}
+use mathlib.Core.Path.{_≡_, refl, sym, ap, _∙_, subst}
+use mathlib.Core.Bool.{Bool, true, false}
+use mathlib.Core.List.{[]}
+use mathlib.Core.Logic.{_⊎_, inl, inr, ⊎-elim}
+use native.Mathlib.Omega.{arith}
+use native.Mathlib.Numerals.{add-one}
+use lib.ListN.{length, getD, set, take, drop, replicate, length-set, length-take, length-drop}
+use lib.Seq.{getD-set-same, getD-set-other}
+use Rattle.meaning.specs.Says.{Says, aye, nay}
+use Rattle.meaning.proofs.Says.{says-iff, says-true, says-false}
+use Rattle.meaning.specs.Register.{parentOf, Layout}
+use Rattle.meaning.specs.Formula.{refValue, stepValue, stepValues}
+use Rattle.meaning.specs.Reply.{tabulated}
+use Rattle.reply.specs.Read.{refFrom, stepFrom, refAt, stepAt, insTo, inAt, entriesOf, insOf, stepsOf, decoded}
+use Rattle.reply.specs.Sound.{Sound, RefOk, StepOk, RefGood, varsOf}
+use Rattle.reply.proofs.Tests.{says-lt, says-le, says-eq, says-ne, says-yes, says-no}
+use Rattle.reply.proofs.Lists.{up-to-suc}
+use Rattle.desk.specs.Whole.{layoutOf, Rules, Heard, placeOf, sizeOf, partOf, Laid, Opened, Whole}
+use Rattle.desk.specs.Steps.{StandsFor, Judged, Starts, Apart, PartOk, FragmentOk}
+use Rattle.desk.specs.Values.{truths, valuesIn, variableOf, rowOf, RowPut, Agree, AllHeard, kept, answerOf}
+use Rattle.desk.proofs.Replies.{var-ok, step-ok, value-var, value-step, value-yes, value-no}
+use borrow.Author.Needs.{needs}
+use Rattle.desk.proofs.solving.value.Statement.{statement}
+use Rattle.desk.proofs.solving.value.Tie as tie
+
+variable-requires : tie.Need-variable-requires
+variable-requires c κs = (c .before .before .pre .0, c .before .before .pre .1, var-ok _ _ _ _ (c .before .before .pre .3) (c .if1 .taken))
+
+returns : tie.Need-returns
+returns c = c .variable .ensures ∙ sym (value-var (variableOf (c .before .before .before .args .s .now) (c .before .before .before .args .v .now) (c .before .before .before .args .d .now)) (c .before .before .before .args .values .now) (c .before .before .before .args .kind) (c .before .before .before .args .x) (c .before .if1 .taken))
+
+element-copy-out-result : tie.Need-element-copy-out-result
+element-copy-out-result c = omega (arith, step-ok _ _ _ _ (c .before .before .before .pre .3) (c .if2 .taken), c .before .before .before .pre .2)
+
+returns-2 : tie.Need-returns-2
+returns-2 c = sym (value-step (variableOf (c .before .before .before .before .args .s .now) (c .before .before .before .before .args .v .now) (c .before .before .before .before .args .d .now)) (c .before .before .before .before .args .values .now) (c .before .before .before .before .args .kind) (c .before .before .before .before .args .x) (c .before .if2 .taken))
+
+returns-3 : tie.Need-returns-3
+returns-3 c = sym (value-yes (variableOf (c .before .before .before .before .args .s .now) (c .before .before .before .before .args .v .now) (c .before .before .before .before .args .d .now)) (c .before .before .before .before .args .values .now) (c .before .before .before .before .args .kind) (c .before .before .before .before .args .x) (c .if3 .taken))
+
+returns-4 : tie.Need-returns-4
+returns-4 c = sym (value-no (variableOf (c .before .before .before .before .args .s .now) (c .before .before .before .before .args .v .now) (c .before .before .before .before .args .d .now)) (c .before .before .before .before .args .values .now) _ _ (c .before .before .before .before .args .kind) (c .before .before .before .before .args .x) (c .before .before .before .before .pre .3) (c .if3 .left) (c .before .before .if1 .left) (c .before .if2 .left))
+
+pub value-spec : {M : Type 1} → statement M
+value-spec =
+    tie.close
+    (tie.spec variable-requires returns element-copy-out-result returns-2 returns-3 returns-4)

@@ -1,0 +1,74 @@
+-- `desk::whole::apart` meets its contract.
+use Prim.Native.Nat.{ℕ, zero, suc, _+_, _-_, _*_, _/_, _%_, _^_, _≤_, _<_}
+use mathlib.Core.Path.{_≡_, refl, sym, ap, _∙_, subst}
+use mathlib.Core.Bool.{Bool, true, false}
+use mathlib.Core.List.{[]}
+use mathlib.Core.Logic.{_⊎_, inl, inr, ⊎-elim}
+use native.Mathlib.Omega.{arith}
+use native.Mathlib.Numerals.{add-one}
+use lib.ListN.{length, getD, set, take, drop, replicate, length-set, length-take, length-drop}
+use lib.Seq.{getD-set-same, getD-set-other}
+use Rattle.meaning.specs.Says.{Says, aye, nay}
+use Rattle.meaning.proofs.Says.{says-iff, says-true, says-false}
+use Rattle.meaning.specs.Register.{parentOf, Layout}
+use Rattle.meaning.specs.Formula.{refValue, stepValue, stepValues}
+use Rattle.meaning.specs.Reply.{tabulated}
+use Rattle.reply.specs.Read.{refFrom, stepFrom, refAt, stepAt, insTo, inAt, entriesOf, insOf, stepsOf, decoded}
+use Rattle.reply.specs.Sound.{Sound, RefOk, StepOk, RefGood, varsOf}
+use Rattle.reply.proofs.Tests.{says-lt, says-le, says-eq, says-ne, says-yes, says-no}
+use Rattle.reply.proofs.Lists.{up-to-suc}
+use Rattle.desk.specs.Whole.{layoutOf, Rules, Heard, placeOf, sizeOf, partOf, Laid, Opened, Whole}
+use Rattle.desk.specs.Steps.{StandsFor, Judged, Starts, Apart, PartOk, FragmentOk}
+use Rattle.desk.specs.Values.{truths, valuesIn, variableOf, rowOf, RowPut, Agree, AllHeard, kept, answerOf}
+use borrow.Author.Needs.{needs}
+use Rattle.desk.proofs.whole.apart.Statement.{statement}
+use Rattle.desk.proofs.whole.apart.Tie as tie
+
+returns : tie.Need-returns
+returns c = aye (λ h n. absurd (n (c .if1 .taken)))
+
+is-heard-requires : tie.Need-is-heard-requires
+is-heard-requires c κs = search needs
+
+returns-2 : tie.Need-returns-2
+returns-2 c = aye (λ h n. absurd (says-no (c .before .is-heard .ensures) (c .if2 .taken) h))
+
+place-of-requires : tie.Need-place-of-requires
+place-of-requires c κs = search needs
+
+size-of-requires : tie.Need-size-of-requires
+size-of-requires c κs = search needs
+
+place-of-requires-2 : tie.Need-place-of-requires-2
+place-of-requires-2 c κs = search needs
+
+size-of-requires-2 : tie.Need-size-of-requires-2
+size-of-requires-2 c κs = search needs
+
+add-if3 : tie.Need-add-if3
+add-if3 c = omega (arith, c .before .before .before .before .before .before .before .pre .2, c .before .before .before .place-of .ensures, c .before .before .size-of .ensures)
+
+returns-3 : tie.Need-returns-3
+returns-3 c = aye (λ h n. inl (omega (arith, c .if3 .taken, c .before .before .before .before .place-of .ensures, c .before .before .before .size-of .ensures, c .before .before .place-of2 .ensures)))
+
+returns-4 : tie.Need-returns-4
+returns-4 c = nay (λ k. ⊎-elim (λ z. omega (arith, z, c .before .if3 .left, c .before .before .before .before .before .place-of .ensures, c .before .before .before .before .size-of .ensures, c .before .before .before .place-of2 .ensures)) (λ z. omega (arith, z, c .if4 .taken, c .before .before .before .before .before .place-of .ensures, c .before .before .before .place-of2 .ensures)) (k (says-yes (c .before .before .before .before .before .before .before .is-heard .ensures) (c .before .before .before .before .before .before .if2 .left)) (c .before .before .before .before .before .before .before .before .if1 .left)))
+
+returns-5 : tie.Need-returns-5
+returns-5 c = says-iff (λ z h n. inr (omega (arith, z, c .if4 .left, c .before .before .before .before .before .place-of .ensures, c .before .before .size-of2 .ensures, c .before .before .before .place-of2 .ensures))) (λ k. ⊎-elim (λ z. absurd (omega (arith, z, c .before .if3 .left, c .before .before .before .before .before .place-of .ensures, c .before .before .before .before .size-of .ensures, c .before .before .before .place-of2 .ensures))) (λ z. omega (arith, z, c .if4 .left, c .before .before .before .before .before .place-of .ensures, c .before .before .size-of2 .ensures, c .before .before .before .place-of2 .ensures)) (k (says-yes (c .before .before .before .before .before .before .before .is-heard .ensures) (c .before .before .before .before .before .before .if2 .left)) (c .before .before .before .before .before .before .before .before .if1 .left))) (says-le (c .before .before .size-of2 .result) (c .before .before .before .before .before .place-of .result - c .before .before .before .place-of2 .result))
+
+pub apart-spec : {M : Type 1} → statement M
+apart-spec =
+    tie.close
+    (tie.spec
+    returns
+    is-heard-requires
+    returns-2
+    place-of-requires
+    size-of-requires
+    place-of-requires-2
+    size-of-requires-2
+    add-if3
+    returns-3
+    returns-4
+    returns-5)

@@ -1,0 +1,62 @@
+-- `desk::whole::fragment_ok` meets its contract.
+use Prim.Native.Nat.{ℕ, zero, suc, _+_, _-_, _*_, _/_, _%_, _^_, _≤_, _<_}
+use mathlib.Core.Path.{_≡_, refl, sym, ap, _∙_, subst}
+use mathlib.Core.Bool.{Bool, true, false}
+use mathlib.Core.List.{[]}
+use mathlib.Core.Logic.{_⊎_, inl, inr, ⊎-elim}
+use native.Mathlib.Omega.{arith}
+use native.Mathlib.Numerals.{add-one}
+use lib.ListN.{length, getD, set, take, drop, replicate, length-set, length-take, length-drop}
+use lib.Seq.{getD-set-same, getD-set-other}
+use Rattle.meaning.specs.Says.{Says, aye, nay}
+use Rattle.meaning.proofs.Says.{says-iff, says-true, says-false}
+use Rattle.meaning.specs.Register.{parentOf, Layout}
+use Rattle.meaning.specs.Formula.{refValue, stepValue, stepValues}
+use Rattle.meaning.specs.Reply.{tabulated}
+use Rattle.reply.specs.Read.{refFrom, stepFrom, refAt, stepAt, insTo, inAt, entriesOf, insOf, stepsOf, decoded}
+use Rattle.reply.specs.Sound.{Sound, RefOk, StepOk, RefGood, varsOf}
+use Rattle.reply.proofs.Tests.{says-lt, says-le, says-eq, says-ne, says-yes, says-no}
+use Rattle.reply.proofs.Lists.{up-to-suc}
+use Rattle.desk.specs.Whole.{layoutOf, Rules, Heard, placeOf, sizeOf, partOf, Laid, Opened, Whole}
+use Rattle.desk.specs.Steps.{StandsFor, Judged, Starts, Apart, PartOk, FragmentOk}
+use Rattle.desk.specs.Values.{truths, valuesIn, variableOf, rowOf, RowPut, Agree, AllHeard, kept, answerOf}
+use borrow.Author.Needs.{needs}
+use Rattle.desk.proofs.whole.fragment_ok.Statement.{statement}
+use Rattle.desk.proofs.whole.fragment_ok.Tie as tie
+
+is-heard-requires : tie.Need-is-heard-requires
+is-heard-requires c κs = search needs
+
+returns : tie.Need-returns
+returns c = aye (λ h. absurd (says-no (c .before .is-heard .ensures) (c .if1 .taken) h))
+
+part-ok-requires : tie.Need-part-ok-requires
+part-ok-requires c κs = search needs
+
+returns-2 : tie.Need-returns-2
+returns-2 c = nay (λ k. says-no (c .before .part-ok .ensures) (c .if2 .taken) (k (says-yes (c .before .before .before .is-heard .ensures) (c .before .before .if1 .left)) .part))
+
+apart-from-requires : tie.Need-apart-from-requires
+apart-from-requires c κs = (c .before .before .before .before .before .pre .2, omega (arith, says-yes (c .before .part-ok .ensures) (c .if2 .left) .inside))
+
+returns-3 : tie.Need-returns-3
+returns-3 c = nay (λ k. says-no (c .before .apart-from .ensures) (c .if3 .taken) (k (says-yes (c .before .before .before .before .before .is-heard .ensures) (c .before .before .before .before .if1 .left)) .apart))
+
+followed-requires : tie.Need-followed-requires
+followed-requires c κs = (c .before .before .before .before .before .before .before .pre .2, omega (arith, says-yes (c .before .before .before .part-ok .ensures) (c .before .before .if2 .left) .inside))
+
+returns-4 : tie.Need-returns-4
+returns-4 c = says-iff (λ z h. record { part = says-yes (c .before .before .before .before .part-ok .ensures) (c .before .before .before .if2 .left); apart = says-yes (c .before .before .apart-from .ensures) (c .before .if3 .left); follows = z }) (λ k. k (says-yes (c .before .before .before .before .before .before .is-heard .ensures) (c .before .before .before .before .before .if1 .left)) .follows) (c .followed .ensures)
+
+pub fragment-ok-spec : {M : Type 1} → statement M
+fragment-ok-spec =
+    tie.close
+    (tie.spec
+    is-heard-requires
+    returns
+    part-ok-requires
+    returns-2
+    apart-from-requires
+    returns-3
+    followed-requires
+    returns-4)

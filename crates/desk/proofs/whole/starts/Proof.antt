@@ -1,0 +1,67 @@
+-- `desk::whole::starts` meets its contract.
+use Prim.Native.Nat.{ℕ, zero, suc, _+_, _-_, _*_, _/_, _%_, _^_, _≤_, _<_}
+use mathlib.Core.Path.{_≡_, refl, sym, ap, _∙_, subst}
+use mathlib.Core.Bool.{Bool, true, false}
+use mathlib.Core.List.{[]}
+use mathlib.Core.Logic.{_⊎_, inl, inr, ⊎-elim}
+use native.Mathlib.Omega.{arith}
+use native.Mathlib.Numerals.{add-one}
+use lib.ListN.{length, getD, set, take, drop, replicate, length-set, length-take, length-drop}
+use lib.Seq.{getD-set-same, getD-set-other}
+use Rattle.meaning.specs.Says.{Says, aye, nay}
+use Rattle.meaning.proofs.Says.{says-iff, says-true, says-false}
+use Rattle.meaning.specs.Register.{parentOf, Layout}
+use Rattle.meaning.specs.Formula.{refValue, stepValue, stepValues}
+use Rattle.meaning.specs.Reply.{tabulated}
+use Rattle.reply.specs.Read.{refFrom, stepFrom, refAt, stepAt, insTo, inAt, entriesOf, insOf, stepsOf, decoded}
+use Rattle.reply.specs.Sound.{Sound, RefOk, StepOk, RefGood, varsOf}
+use Rattle.reply.proofs.Tests.{says-lt, says-le, says-eq, says-ne, says-yes, says-no}
+use Rattle.reply.proofs.Lists.{up-to-suc}
+use Rattle.desk.specs.Whole.{layoutOf, Rules, Heard, placeOf, sizeOf, partOf, Laid, Opened, Whole}
+use Rattle.desk.specs.Steps.{StandsFor, Judged, Starts, Apart, PartOk, FragmentOk}
+use Rattle.desk.specs.Values.{truths, valuesIn, variableOf, rowOf, RowPut, Agree, AllHeard, kept, answerOf}
+use borrow.Author.Needs.{needs}
+use Rattle.desk.proofs.whole.starts.Statement.{statement}
+use Rattle.desk.proofs.whole.starts.Tie as tie
+
+abbrev Inv-loop : tie.InvT-loop
+Inv-loop q at g₀ g = (g ≤ 32) × ((j : ℕ) → j < g → Heard q j × (placeOf q j ≡ at) → ⊥)
+
+abbrev μ-loop : tie.MeasureT-loop
+μ-loop q at g₀ g = 32 - g
+
+loop-holds : tie.Need-loop-holds Inv-loop μ-loop
+loop-holds c = (omega arith, λ j h. absurd (omega arith))
+
+begins-requires : tie.Need-begins-requires Inv-loop μ-loop
+begins-requires c κs = c .loop-test .taken
+
+returns : tie.Need-returns Inv-loop μ-loop
+returns c =
+    let b = says-true (c .before .begins .ensures) (c .if1 .taken) in aye (record { part = c .before .before .before .loop .g; is = b .0; here = b .1 })
+
+add-g : tie.Need-add-g Inv-loop μ-loop
+add-g c = omega arith
+
+loop-less : tie.Need-loop-less Inv-loop μ-loop
+loop-less c = omega arith
+
+loop-again : tie.Need-loop-again Inv-loop μ-loop
+loop-again c = (omega arith, λ j h. up-to-suc (λ j. Heard (c .before .before .before .before .args .q) j × (placeOf (c .before .before .before .before .args .q) j ≡ c .before .before .before .before .args .at) → ⊥) (c .before .before .before .loop .g) (c .before .before .before .loop .inv .1) (says-false (c .before .begins .ensures) (c .if1 .left)) j (omega arith))
+
+returns-2 : tie.Need-returns-2 Inv-loop μ-loop
+returns-2 c = nay (λ s. c .before .loop .inv .1 (s .part) (omega (arith, s .is .0, c .loop-test .left)) (s .is, s .here))
+
+pub starts-spec : {M : Type 1} → statement M
+starts-spec =
+    tie.close
+    (tie.spec
+    Inv-loop
+    μ-loop
+    loop-holds
+    begins-requires
+    returns
+    add-g
+    loop-less
+    loop-again
+    returns-2)

@@ -1,0 +1,63 @@
+-- `desk::whole::whole` meets its contract.
+use Prim.Native.Nat.{ℕ, zero, suc, _+_, _-_, _*_, _/_, _%_, _^_, _≤_, _<_}
+use mathlib.Core.Path.{_≡_, refl, sym, ap, _∙_, subst}
+use mathlib.Core.Bool.{Bool, true, false}
+use mathlib.Core.List.{[]}
+use mathlib.Core.Logic.{_⊎_, inl, inr, ⊎-elim}
+use native.Mathlib.Omega.{arith}
+use native.Mathlib.Numerals.{add-one}
+use lib.ListN.{length, getD, set, take, drop, replicate, length-set, length-take, length-drop}
+use lib.Seq.{getD-set-same, getD-set-other}
+use Rattle.meaning.specs.Says.{Says, aye, nay}
+use Rattle.meaning.proofs.Says.{says-iff, says-true, says-false}
+use Rattle.meaning.specs.Register.{parentOf, Layout}
+use Rattle.meaning.specs.Formula.{refValue, stepValue, stepValues}
+use Rattle.meaning.specs.Reply.{tabulated}
+use Rattle.reply.specs.Read.{refFrom, stepFrom, refAt, stepAt, insTo, inAt, entriesOf, insOf, stepsOf, decoded}
+use Rattle.reply.specs.Sound.{Sound, RefOk, StepOk, RefGood, varsOf}
+use Rattle.reply.proofs.Tests.{says-lt, says-le, says-eq, says-ne, says-yes, says-no}
+use Rattle.reply.proofs.Lists.{up-to-suc}
+use Rattle.desk.specs.Whole.{layoutOf, Rules, Heard, placeOf, sizeOf, partOf, Laid, Opened, Whole}
+use Rattle.desk.specs.Steps.{StandsFor, Judged, Starts, Apart, PartOk, FragmentOk}
+use Rattle.desk.specs.Values.{truths, valuesIn, variableOf, rowOf, RowPut, Agree, AllHeard, kept, answerOf}
+use Rattle.desk.proofs.Pieces.{whole-fresh, not-fresh, whole-open, whole-rules}
+use borrow.Author.Needs.{needs}
+use Rattle.desk.proofs.whole.whole.Statement.{statement}
+use Rattle.desk.proofs.whole.whole.Tie as tie
+
+returns : tie.Need-returns
+returns c = nay (not-fresh (c .before .before .before .before .before .before .args .desk) (c .before .before .before .before .before .before .args .store .now) (c .before .before .if1 .taken) (λ l u. c .if2 .taken l))
+
+returns-2 : tie.Need-returns-2
+returns-2 c = nay (not-fresh (c .before .before .before .before .before .before .before .args .desk) (c .before .before .before .before .before .before .before .args .store .now) (c .before .before .before .if1 .taken) (λ l u. c .if3 .taken u))
+
+none-heard-requires : tie.Need-none-heard-requires
+none-heard-requires c κs = search needs
+
+returns-3 : tie.Need-returns-3
+returns-3 c = whole-fresh (c .before .before .before .before .before .before .before .before .args .desk) (c .before .before .before .before .before .before .before .before .args .store .now) (c .before .before .before .before .if1 .taken) (c .before .before .if2 .left) (c .before .if3 .left) (c .none-heard .ensures)
+
+rules-requires : tie.Need-rules-requires
+rules-requires c κs = search needs
+
+returns-4 : tie.Need-returns-4
+returns-4 c = nay (whole-rules (c .before .before .before .before .before .before .args .desk) (c .before .before .before .before .before .before .args .store .now) (c .before .before .if1 .left) (says-no (c .before .rules .ensures) (c .if4 .taken)))
+
+laid-requires : tie.Need-laid-requires
+laid-requires c κs = says-yes (c .before .rules .ensures) (c .if4 .left) .few-parts
+
+returns-5 : tie.Need-returns-5
+returns-5 c = whole-open (c .before .before .before .before .before .before .before .args .desk) (c .before .before .before .before .before .before .before .args .store .now) (c .before .before .before .if1 .left) (says-yes (c .before .before .rules .ensures) (c .before .if4 .left)) (c .laid .ensures)
+
+pub whole-spec : {M : Type 1} → statement M
+whole-spec =
+    tie.close
+    (tie.spec
+    returns
+    returns-2
+    none-heard-requires
+    returns-3
+    rules-requires
+    returns-4
+    laid-requires
+    returns-5)

@@ -1,0 +1,81 @@
+-- `desk::why` meets its contract.
+use Prim.Native.Nat.{ℕ, zero, suc, _+_, _-_, _*_, _/_, _%_, _^_, _≤_, _<_}
+use mathlib.Core.Path.{_≡_, refl, sym, ap, _∙_, subst}
+use mathlib.Core.Bool.{Bool, true, false}
+use mathlib.Core.List.{[]}
+use mathlib.Core.Logic.{_⊎_, inl, inr, ⊎-elim}
+use native.Mathlib.Omega.{arith}
+use native.Mathlib.Numerals.{add-one}
+use lib.ListN.{length, getD, set, take, drop, replicate, length-set, length-take, length-drop}
+use lib.Seq.{getD-set-same, getD-set-other}
+use Rattle.meaning.specs.Says.{Says, aye, nay}
+use Rattle.meaning.proofs.Says.{says-iff, says-true, says-false}
+use Rattle.meaning.specs.Register.{parentOf, Layout}
+use Rattle.meaning.specs.Formula.{refValue, stepValue, stepValues}
+use Rattle.meaning.specs.Reply.{tabulated}
+use Rattle.reply.specs.Read.{refFrom, stepFrom, refAt, stepAt, insTo, inAt, entriesOf, insOf, stepsOf, decoded}
+use Rattle.reply.specs.Sound.{Sound, RefOk, StepOk, RefGood, varsOf}
+use Rattle.reply.proofs.Tests.{says-lt, says-le, says-eq, says-ne, says-yes, says-no}
+use Rattle.reply.proofs.Lists.{up-to-suc}
+use Rattle.desk.specs.Whole.{layoutOf, Rules, Heard, placeOf, sizeOf, partOf, Laid, Opened, Whole}
+use Rattle.desk.specs.Steps.{StandsFor, Judged, Starts, Apart, PartOk, FragmentOk}
+use Rattle.desk.specs.Values.{truths, valuesIn, variableOf, rowOf, RowPut, Agree, AllHeard, kept, answerOf}
+use Rattle.desk.proofs.Calling.{judging-refused, judging-passed, not-heard, heard-before}
+use Rattle.desk.proofs.Pieces.{long-enough, was-open}
+use Rattle.desk.specs.Refused.{refused, passed, granted}
+use borrow.Author.Needs.{needs}
+use Rattle.desk.proofs.why.Statement.{statement}
+use Rattle.desk.proofs.why.Tie as tie
+
+whole-requires : tie.Need-whole-requires
+whole-requires c κs = search needs
+
+returns : tie.Need-returns
+returns c = refused (says-no (c .before .whole .ensures) (c .if1 .taken))
+
+returns-2 : tie.Need-returns-2
+returns-2 c = passed (says-yes (c .before .before .before .before .whole .ensures) (c .before .before .before .if1 .left)) (refused (λ n. n (c .if2 .taken)))
+
+judge-requires : tie.Need-judge-requires
+judge-requires c κs = (was-open (c .before .before .before .before .before .before .before .args .desk) (c .before .before .before .before .before .before .before .args .store .now) (says-yes (c .before .before .before .before .whole .ensures) (c .before .before .before .if1 .left)) (c .if2 .left)) .rules .few-parts
+
+returns-3 : tie.Need-returns-3
+returns-3 c = passed (says-yes (c .before .before .before .before .before .before .whole .ensures) (c .before .before .before .before .before .if1 .left)) (passed (c .before .before .if2 .left) (judging-refused (c .before .judge .ensures) (c .if3 .taken)))
+
+header-requires : tie.Need-header-requires
+header-requires c κs = long-enough (c .before .judge .ensures) (c .if3 .left)
+
+cast-is-heard : tie.Need-cast-is-heard
+cast-is-heard c = search needs
+
+is-heard-requires : tie.Need-is-heard-requires
+is-heard-requires c κs = c .before .header .ensures .fragment-lt
+
+returns-4 : tie.Need-returns-4
+returns-4 c = passed (says-yes (c .before .before .before .before .before .before .before .before .before .before .whole .ensures) (c .before .before .before .before .before .before .before .before .before .if1 .left)) (passed (c .before .before .before .before .before .before .if2 .left) (judging-passed (c .before .before .before .before .before .judge .ensures) (c .before .before .before .before .if3 .left) (refused (heard-before (c .before .before .before .before .before .before .before .before .before .before .before .before .before .args .desk .question) (c .before .before .before .before .before .before .before .before .before .before .before .before .before .args .s .now) (c .before .before .before .header .result) (c .before .before .before .header .ensures) (c .before .before .before .before .before .judge .ensures) (c .before .before .before .before .if3 .left) (says-true (c .before .is-heard .ensures) (c .if4 .taken))))))
+
+sub-if5 : tie.Need-sub-if5
+sub-if5 c = omega (arith, (was-open (c .before .before .before .before .before .before .before .before .before .before .before .before .before .args .desk) (c .before .before .before .before .before .before .before .before .before .before .before .before .before .args .store .now) (says-yes (c .before .before .before .before .before .before .before .before .before .before .whole .ensures) (c .before .before .before .before .before .before .before .before .before .if1 .left)) (c .before .before .before .before .before .before .if2 .left)) .laid .fits)
+
+returns-5 : tie.Need-returns-5
+returns-5 c = passed (says-yes (c .before .before .before .before .before .before .before .before .before .before .before .whole .ensures) (c .before .before .before .before .before .before .before .before .before .before .if1 .left)) (passed (c .before .before .before .before .before .before .before .if2 .left) (judging-passed (c .before .before .before .before .before .before .judge .ensures) (c .before .before .before .before .before .if3 .left) (passed (not-heard (c .before .before .before .before .before .before .before .before .before .before .before .before .before .before .args .desk .question) (c .before .before .before .before .before .before .before .before .before .before .before .before .before .before .args .s .now) (c .before .before .before .before .header .result) (c .before .before .before .before .header .ensures) (says-false (c .before .before .is-heard .ensures) (c .before .if4 .left))) (refused (λ l. omega (arith, (was-open (c .before .before .before .before .before .before .before .before .before .before .before .before .before .before .args .desk) (c .before .before .before .before .before .before .before .before .before .before .before .before .before .before .args .store .now) (says-yes (c .before .before .before .before .before .before .before .before .before .before .before .whole .ensures) (c .before .before .before .before .before .before .before .before .before .before .if1 .left)) (c .before .before .before .before .before .before .before .if2 .left)) .laid .fits, c .if5 .taken, l))))))
+
+returns-6 : tie.Need-returns-6
+returns-6 c = passed (says-yes (c .before .before .before .before .before .before .before .before .before .before .before .whole .ensures) (c .before .before .before .before .before .before .before .before .before .before .if1 .left)) (passed (c .before .before .before .before .before .before .before .if2 .left) (judging-passed (c .before .before .before .before .before .before .judge .ensures) (c .before .before .before .before .before .if3 .left) (passed (not-heard (c .before .before .before .before .before .before .before .before .before .before .before .before .before .before .args .desk .question) (c .before .before .before .before .before .before .before .before .before .before .before .before .before .before .args .s .now) (c .before .before .before .before .header .result) (c .before .before .before .before .header .ensures) (says-false (c .before .before .is-heard .ensures) (c .before .if4 .left))) (passed (omega (arith, (was-open (c .before .before .before .before .before .before .before .before .before .before .before .before .before .before .args .desk) (c .before .before .before .before .before .before .before .before .before .before .before .before .before .before .args .store .now) (says-yes (c .before .before .before .before .before .before .before .before .before .before .before .whole .ensures) (c .before .before .before .before .before .before .before .before .before .before .if1 .left)) (c .before .before .before .before .before .before .before .if2 .left)) .laid .fits, c .if5 .left)) granted))))
+
+pub why-spec : {M : Type 1} → statement M
+why-spec =
+    tie.close
+    (tie.spec
+    whole-requires
+    returns
+    returns-2
+    judge-requires
+    returns-3
+    header-requires
+    cast-is-heard
+    is-heard-requires
+    returns-4
+    sub-if5
+    returns-5
+    returns-6)

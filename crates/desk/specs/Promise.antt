@@ -1,0 +1,34 @@
+-- WHAT IS PROVED of the desk's calls: each promise is a type, and proofs/ has an element of it under its name (`one-opening` of `OneOpening`).
+use Prim.Native.Nat.{ℕ, _≤_, _<_}
+use mathlib.Core.Path.{_≡_}
+use mathlib.Core.Logic.{_≢_}
+use lib.ListN.{length}
+use Rattle.meaning.specs.Bytes.{Bytes}
+use Rattle.desk.specs.Whole.{Whole}
+use Rattle.desk.specs.Calls.{Opens, Accepts, Asks}
+use Rattle.desk.specs.Steps.{Sizes}
+use Rattle.desk.specs.declared.Record.{Record}
+
+-- ---- any two results that a contract allows are equal
+abbrev pub OneOpening : Type 0
+OneOpening = (d : Record) (layout : Bytes) (entries number m n : ℕ) (a b : Record)
+    → Opens d layout entries number m a → Opens d layout entries number n b → (m ≡ n) × (a ≡ b)
+
+abbrev pub OneAccepting : Type 0
+OneAccepting = (d : Record) (store s : Bytes) (m n : ℕ) (a b : Record) (x y : Bytes)
+    → Accepts d store s m a x → Accepts d store s n b y → (m ≡ n) × (a ≡ b) × (x ≡ y)
+
+abbrev pub OneAsking : Type 0
+OneAsking = (d : Record) (store : Bytes) (m n a b : ℕ) → Asks d store m a → Asks d store n b → (m ≡ n) × (a ≡ b)
+
+-- ---- whole: a successful opening of any record, with any store, is whole; accepting and a refused opening keep it
+abbrev pub OpeningWhole : Type 0
+OpeningWhole = (d : Record) (layout : Bytes) (entries number : ℕ) (a : Record) → Opens d layout entries number 0 a → (store : Bytes) → Whole a store
+
+abbrev pub RefusedOpeningKeeps : Type 0
+RefusedOpeningKeeps = (d : Record) (layout : Bytes) (entries number m : ℕ) (a : Record) → m ≢ 0 → Opens d layout entries number m a
+    → (store : Bytes) → Whole d store → Whole a store
+
+-- (an array's length, which a record's type does not tell, is 32)
+abbrev pub AcceptingKeeps : Type 0
+AcceptingKeeps = (d : Record) (store s : Bytes) (m : ℕ) (a : Record) (x : Bytes) → Sizes (d .question) → Accepts d store s m a x → Whole d store → Whole a x
