@@ -1,11 +1,11 @@
 -- What opening, accepting and asking have shown, on plain values.
-use Prim.Native.Nat.{ℕ, zero, suc, _+_, _-_, _*_, _≤_, _<_}
+use Prim.Native.Nat.{ℕ, zero, suc, _+_, _-_, _≤_, _<_}
 use native.Mathlib.Omega.{arith}
 use native.Mathlib.Decide.{ℕ-discrete}
 use mathlib.Core.Path.{_≡_, refl, sym, ap, _∙_, subst}
 use mathlib.Core.Logic.{_≢_}
-use mathlib.Core.Bool.{Bool, true, false, _&&_, cond, true≢false, false≢true}
-use mathlib.Core.Option.{Option, none, some}
+use mathlib.Core.Bool.{Bool, true, false, _&&_, cond, false≢true}
+use mathlib.Core.Option.{none, some}
 use mathlib.Core.List.{List, _++_, append-nil}
 use lib.Dec.{eqb}
 use lib.ListN.{length, getD, take, drop, replicate, length-drop, drop-of-length-le}
@@ -15,19 +15,19 @@ use Rattle.meaning.specs.Algebra.{bool}
 use Rattle.meaning.specs.Reply.{Reply}
 use Rattle.meaning.specs.Solve.{Values, solved, solve, blank, Outcome, waiting, said, isHeard, allHeard, outcome}
 use Rattle.meaning.proofs.Numbers.{eqb-true, eqb-false}
-use Rattle.reply.specs.Read.{Is, read, decoded}
+use Rattle.reply.specs.Read.{Is, read}
 use Rattle.reply.specs.Post.{HeadIs}
 use Rattle.reply.specs.declared.Head.{Head}
 use Rattle.reply.proofs.Round.{is-the, some-is, sound-of}
-use Rattle.desk.specs.Refused.{Unless, refused, passed, Granted, granted}
-use Rattle.desk.specs.Whole.{Keeps, Shaped, Free, Judging, Heard, partOf, Opened, Whole}
+use Rattle.desk.specs.Refused.{refused, passed, granted}
+use Rattle.desk.specs.Whole.{Keeps, Free, Judging, Heard, partOf, Opened, Whole}
 use Rattle.desk.specs.Steps.{Judged}
-use Rattle.desk.specs.Values.{truths, AllHeard, kept, answerOf}
+use Rattle.desk.specs.Values.{AllHeard, kept, answerOf}
 use Rattle.desk.specs.Changed.{openedAs, noted, putAt}
-use Rattle.desk.specs.Calls.{Opens, Room, Why, Accepts, held, saidOf, Asks}
+use Rattle.desk.specs.Calls.{Opens, Why, Accepts, held, saidOf, Asks}
 use Rattle.desk.specs.declared.Question.{Question}
 use Rattle.desk.specs.declared.Record.{Record}
-use Rattle.desk.proofs.Pieces.{one-of, fragment-is, judged-free, was-open}
+use Rattle.desk.proofs.Pieces.{fragment-is, judged-free, was-open}
 use Rattle.desk.proofs.Truths.{bit, solved-same}
 
 -- ---- opening

@@ -1,8 +1,8 @@
 -- The values of steps and references, over any truth values.
-use Prim.Native.Nat.{ℕ, zero, suc, _≤_, _<_}
+use Prim.Native.Nat.{ℕ, suc, _<_}
 use mathlib.Core.Path.{_≡_, refl, sym, ap, ap₂, _∙_}
 use mathlib.Core.List.{List, [], _∷_, _++_}
-use lib.ListN.{length, getD, take, set}
+use lib.ListN.{length, take, set}
 use lib.Seq.{getD-take, take-suc-set}
 use Rattle.meaning.specs.Algebra.{Truth}
 use Rattle.meaning.specs.Formula.{Ref, Step, refValue, stepValue, stepValues, value}

@@ -1,25 +1,24 @@
 -- What the tests of record and store have shown, on plain values.
-use Prim.Native.Nat.{ℕ, zero, suc, _+_, _-_, _*_, _≤_, _<_}
+use Prim.Native.Nat.{ℕ, _+_, _-_, _≤_, _<_}
 use mathlib.Core.Path.{_≡_, refl, sym, ap, _∙_, subst}
-use mathlib.Core.Bool.{Bool, true, false}
+use mathlib.Core.Bool.{Bool}
 use mathlib.Core.Option.{Option, none, some}
 use mathlib.Core.List.{List, List·Memᴰ}
-use mathlib.Core.Logic.{_⊎_, inl, inr, ⊎-elim, _↔_, _≢_}
+use mathlib.Core.Logic.{_⊎_, ⊎-elim, _≢_}
 use native.Mathlib.Omega.{arith}
 use native.Mathlib.Nat.{min-le-left}
 use lib.ListN.{length, getD, take, drop, length-take}
-use Rattle.meaning.specs.Says.{Says, aye, nay}
+use Rattle.meaning.specs.Says.{Says}
 use Rattle.meaning.specs.Bytes.{Bytes}
 use Rattle.meaning.specs.Reply.{Reply}
 use Rattle.meaning.specs.Register.{parentOf, Layout, childrenOf}
 use Rattle.meaning.proofs.Says.{says-iff}
-use Rattle.reply.specs.Read.{inAt, read, Is, decoded}
-use Rattle.reply.specs.Sound.{Sound}
+use Rattle.reply.specs.Read.{inAt, read, Is}
 use Rattle.reply.specs.Post.{HeadIs, verdict}
 use Rattle.reply.specs.declared.Head.{Head}
 use Rattle.reply.proofs.Round.{Fields, fields-of, check-reply, check-none, is-the, sound-of}
-use Rattle.desk.specs.Refused.{Unless, refused, passed, Granted, granted}
-use Rattle.desk.specs.Whole.{layoutOf, Rules, Shaped, Free, Judging, Heard, placeOf, sizeOf, partOf, Own, Laid, Opened, Whole, closed, opened}
+use Rattle.desk.specs.Refused.{refused, passed, granted}
+use Rattle.desk.specs.Whole.{layoutOf, Rules, Shaped, Free, Heard, placeOf, sizeOf, partOf, Own, Laid, Opened, Whole, closed, opened}
 use Rattle.desk.specs.Steps.{StandsFor, Judged, Starts, PartOk, FragmentOk}
 use Rattle.desk.specs.declared.Question.{Question}
 use Rattle.desk.specs.declared.Record.{Record}

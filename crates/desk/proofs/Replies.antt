@@ -1,24 +1,23 @@
 -- What the functions that solve one reply have shown, on plain values.
-use Prim.Native.Nat.{ℕ, zero, suc, _+_, _-_, _*_, _/_, _%_, _^_, _≤_, _<_}
+use Prim.Native.Nat.{ℕ, zero, suc, _+_, _-_, _*_, _/_, _%_, _≤_, _<_}
 use native.Mathlib.Nat.{div-add-mod', div-lt-iff-lt-mul, mod-lt, mul-comm}
 use native.Mathlib.Decide.{decLt}
 use native.Mathlib.Omega.{arith}
 use mathlib.Core.Path.{_≡_, refl, sym, ap, _∙_}
 use mathlib.Core.Bool.{cond}
 use mathlib.Core.Logic.{_≢_}
-use mathlib.Core.List.{List, [], _∷_}
+use mathlib.Core.List.{List, []}
 use lib.Dec.{eqb}
 use lib.ListN.{length, getD, take, replicate, List·getD-eq-default}
-use Rattle.bits.specs.Bits.{fieldAt}
 use Rattle.bits.proofs.Laws.{field-lt}
 use Rattle.meaning.specs.Formula.{Ref, Step, refValue, stepValue, stepValues, value}
 use Rattle.meaning.specs.Reply.{tabulated}
-use Rattle.meaning.specs.Solve.{assign, hereOf, lowerOf}
+use Rattle.meaning.specs.Solve.{hereOf, lowerOf}
 use Rattle.meaning.proofs.Solve.{assign-V, assign-D}
 use Rattle.meaning.proofs.Numbers.{eqb-true, eqb-false}
 use Rattle.reply.specs.WellFormed.{vars, Operands, Result}
-use Rattle.reply.specs.Read.{refFrom, stepFrom, refAt, stepAt, entriesOf, insOf, stepsOf, inAt, decoded, insTo, stepsTo, vTo, endOf}
-use Rattle.reply.specs.Sound.{Sound, RefOk, StepOk, RefGood, StepGood, varsOf}
+use Rattle.reply.specs.Read.{refFrom, stepFrom, refAt, stepAt, entriesOf, insOf, stepsOf, inAt, decoded}
+use Rattle.reply.specs.Sound.{Sound, RefOk, StepOk, RefGood, varsOf}
 use Rattle.reply.proofs.Lists.{tab-at, tab-length, tab-is, tab-same}
 use Rattle.reply.proofs.Fields.{ref-in, step-in}
 use Rattle.desk.specs.Values.{truths, valuesIn, variableOf, rowOf}

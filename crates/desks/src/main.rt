@@ -326,38 +326,50 @@ fn with(desk: Record, q: Question, store: &[u8]) {
     ask(d, store);
 }
 
-// A full record forged number by number.
+fn none_open(q: Question, store: &[u8]) {
+    with(desk_fresh(), q, store);
+}
+
+// A full record with other numbers; of the last number asking reads nothing.
 fn forged_numbers() {
     let mut store = [0u8; 209];
     name(b"numbers forged");
     let d = full(&mut store);
+    forged_record(d, &store);
+    forged_counts(d, &store);
+    end();
+}
+
+fn forged_record(d: Record, store: &[u8]) {
     let mut e = d;
     e.last = 3;
-    ask(e, &store);
+    ask(e, store);
     e.used = 208;
-    ask(e, &store);
+    ask(e, store);
     e.used = 210;
-    ask(e, &store);
+    ask(e, store);
     let mut q = d.question;
     q.number = 8;
-    with(d, q, &store);
+    with(d, q, store);
     q.number = 0;
-    with(d, q, &store);
-    q = d.question;
+    with(d, q, store);
+}
+
+fn forged_counts(d: Record, store: &[u8]) {
+    let mut q = d.question;
     q.entries = 9;
-    with(d, q, &store);
+    with(d, q, store);
     q.entries = 0;
-    with(d, q, &store);
+    with(d, q, store);
     q = d.question;
     q.parts = 2;
-    with(d, q, &store);
+    with(d, q, store);
     q.parts = 4;
-    with(d, q, &store);
+    with(d, q, store);
     q.parts = 33;
-    with(d, q, &store);
+    with(d, q, store);
     q.parts = 0;
-    with(d, q, &store);
-    end();
+    with(d, q, store);
 }
 
 // A full record forged element by element: what lies past the parts and unheard is not judged.
@@ -365,64 +377,85 @@ fn forged_parts() {
     let mut store = [0u8; 209];
     name(b"parts forged");
     let d = full(&mut store);
+    forged_layout(d, &store);
+    forged_places(d, &store);
+    end();
+}
+
+fn forged_layout(d: Record, store: &[u8]) {
     let mut q = d.question;
     q.layout[0] = 0;
-    with(d, q, &store);
+    with(d, q, store);
     q = d.question;
     q.layout[2] = 1;
-    with(d, q, &store);
+    with(d, q, store);
     q = d.question;
     q.layout[3] = 200;
     q.place[5] = 7;
     q.size[5] = 9;
     q.heard[1] = 200;
-    with(d, q, &store);
+    with(d, q, store);
     q.heard[3] = 1;
-    with(d, q, &store);
-    q = d.question;
-    q.heard[1] = 0;
-    with(d, q, &store);
-    q.heard[1] = 1;
-    q.place[1] = 165;
-    with(d, q, &store);
-    q.place[1] = 166;
-    with(d, q, &store);
-    q.size[1] = 42;
-    with(d, q, &store);
-    q.size[1] = 43;
-    q.place[1] = q.place[2];
-    with(d, q, &store);
-    end();
+    with(d, q, store);
 }
 
-// Places and lengths that would wrap, and records with no question that are not whole.
+fn forged_places(d: Record, store: &[u8]) {
+    let mut q = d.question;
+    q.heard[1] = 0;
+    with(d, q, store);
+    q.heard[1] = 1;
+    q.place[1] = 165;
+    with(d, q, store);
+    q.place[1] = 166;
+    with(d, q, store);
+    q.size[1] = 42;
+    with(d, q, store);
+    q.size[1] = 43;
+    q.place[1] = 0;
+    with(d, q, store);
+}
+
+// Places and lengths that would wrap, records with no question that are not whole, and a byte of the store changed.
 fn forged_far() {
     let mut store = [0u8; 209];
     name(b"far forged");
     let d = full(&mut store);
+    wrapping(d, &store);
+    not_fresh(&store);
+    fresh_question(&store);
+    store[3] = 1;
+    ask(d, &store);
+    end();
+}
+
+fn wrapping(d: Record, store: &[u8]) {
     let mut q = d.question;
     q.place[1] = 18446744073709551615;
-    with(d, q, &store);
+    with(d, q, store);
     q.size[1] = 18446744073709551615;
-    with(d, q, &store);
+    with(d, q, store);
     q = d.question;
     q.place[1] = 18446744073709551573;
-    with(d, q, &store);
+    with(d, q, store);
+}
+
+fn not_fresh(store: &[u8]) {
     let mut e = desk_fresh();
     e.last = 1;
-    ask(e, &store);
+    ask(e, store);
     e = desk_fresh();
     e.used = 1;
-    ask(e, &store);
-    q = desk_fresh().question;
+    ask(e, store);
+}
+
+fn fresh_question(store: &[u8]) {
+    let fresh = desk_fresh();
+    let mut q = fresh.question;
     q.heard[31] = 1;
-    with(desk_fresh(), q, &store);
+    none_open(q, store);
     q.heard[31] = 0;
     q.parts = 99;
     q.layout[0] = 3;
     q.place[2] = 8;
-    with(desk_fresh(), q, &store);
-    store[3] = 1;
-    ask(d, &store);
-    end();
+    none_open(q, store);
 }
