@@ -1,5 +1,5 @@
 /* Calls the desk as a C host does, on the register to try (01), question a, number 7, and compares each answer, the record and the store
-   with what 01 lays down. Run under a small stack by calls.sh beside it. */
+   with what 01 lays down. Run under a small stack by tools/desk-check. */
 
 /* no header of the machine, so that this compiles for x86-64 on Arm too */
 typedef unsigned char uint8_t;
