@@ -1,7 +1,7 @@
 // The desk: one question at a time, replies put one after another in a lent store, and the answer once every fragment is heard.
 // Anyone may fill a record with anything: accepting and asking first judge record and store whole.
-pub mod solving;
-pub mod whole;
+mod solving;
+mod whole;
 
 use reply::header;
 use solving::all_heard;

@@ -209,7 +209,7 @@ fn solved_one(q: Question, used: usize, store: &[u8], f: usize, b: Table) -> Tab
 }
 
 // All fragments solved from the highest down: V of fragment 0's last entry.
-pub fn answer(q: Question, used: usize, store: &[u8]) -> u8
+pub(crate) fn answer(q: Question, used: usize, store: &[u8]) -> u8
     requires { ⌜ Opened q used (now store) × AllHeard q ⌝ }
     ensures { λ r. ⌜ r ≡ answerOf q (now (store .entry)) ⌝ }
 {
@@ -227,7 +227,7 @@ pub fn answer(q: Question, used: usize, store: &[u8]) -> u8
     v[e]
 }
 
-pub fn all_heard(q: Question) -> bool
+pub(crate) fn all_heard(q: Question) -> bool
     requires { ⌜ q .parts ≤ 32 ⌝ }
     ensures { λ r. ⌜ Says (AllHeard q) r ⌝ }
 {

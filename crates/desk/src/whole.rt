@@ -23,7 +23,7 @@ fn wide(x: u8) -> usize
     x as usize
 }
 
-pub fn layout_ok(layout: &[u8]) -> bool
+pub(crate) fn layout_ok(layout: &[u8]) -> bool
     ensures { λ r. ⌜ Says (Layout (now (layout .entry))) r ⌝ }
 {
     let parts = layout.len();
@@ -116,7 +116,7 @@ fn parents(q: Question) -> [u8; 32]
 }
 
 // The first of 13, 14, 15 that applies to the bytes s, or 0.
-pub fn judge(q: Question, s: &[u8]) -> u8
+pub(crate) fn judge(q: Question, s: &[u8]) -> u8
     requires { ⌜ q .parts ≤ 32 ⌝ }
     ensures { λ r. ⌜ Judged q (now (s .entry)) r ⌝ }
 {
@@ -148,21 +148,21 @@ pub fn judge(q: Question, s: &[u8]) -> u8
 
 // ---- the store
 
-pub fn place_of(q: Question, f: usize) -> usize
+pub(crate) fn place_of(q: Question, f: usize) -> usize
     requires { ⌜ f < 32 ⌝ }
     ensures { λ r. ⌜ r ≡ placeOf q f ⌝ }
 {
     q.place[f]
 }
 
-pub fn size_of(q: Question, f: usize) -> usize
+pub(crate) fn size_of(q: Question, f: usize) -> usize
     requires { ⌜ f < 32 ⌝ }
     ensures { λ r. ⌜ r ≡ sizeOf q f ⌝ }
 {
     q.size[f]
 }
 
-pub fn is_heard(q: Question, f: usize) -> bool
+pub(crate) fn is_heard(q: Question, f: usize) -> bool
     requires { ⌜ f < 32 ⌝ }
     ensures { λ r. ⌜ Says (Heard q f) r ⌝ }
 {
@@ -338,7 +338,7 @@ fn none_heard(q: Question) -> bool
     true
 }
 
-pub fn whole(desk: Record, store: &[u8]) -> bool
+pub(crate) fn whole(desk: Record, store: &[u8]) -> bool
     ensures { λ r. ⌜ Says (Whole desk (now (store .entry))) r ⌝ }
 {
     let q = desk.question;

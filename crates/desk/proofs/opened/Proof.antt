@@ -19,7 +19,7 @@ returns-3 : tie.Need-returns-3
 returns-3 c = opens-10 (c .before .before .before .before .before .args .desk) (c .before .before .before .before .before .args .layout .now) (c .before .before .before .before .before .args .entries) (c .before .before .before .before .before .args .number) (λ k. omega (arith, k .few-entries, c .if3 .taken))
 
 returns-4 : tie.Need-returns-4
-returns-4 c = opens-11 (c .before .before .before .before .before .before .before .args .desk) (c .before .before .before .before .before .before .before .args .layout .now) (c .before .before .before .before .before .before .before .args .entries) (c .before .before .before .before .before .before .before .args .number) (record { layout-keeps = says-yes (c .before .before .before .before .before .layout-ok .ensures) (c .before .before .before .before .if1 .left); some-entry = omega arith; few-entries = omega arith }) (c .if4 .taken)
+returns-4 c = opens-11 (c .before .before .before .before .before .before .before .args .desk) (c .before .before .before .before .before .before .before .args .layout .now) (c .before .before .before .before .before .before .before .args .entries) (c .before .before .before .before .before .before .before .args .number) (record { layout-keeps = says-yes (c .before .before .before .before .before .layout-ok .ensures) (c .before .before .before .before .if1 .left); some-entry = omega arith; few-entries = omega arith }) (omega arith)
 
 opened-as-requires : tie.Need-opened-as-requires
 opened-as-requires c κs = says-yes (c .before .before .before .before .before .layout-ok .ensures) (c .before .before .before .before .if1 .left) .most
