@@ -9,16 +9,17 @@ use lib.ListN.{length, getD, set, take, drop, replicate, length-append, length-d
 use lib.Seq.{length-take-le, take-append-le, drop-append-le, take-append-seam, drop-at, take-at, getD-set-same, getD-set-other}
 use Rattle.meaning.specs.Bytes.{Bytes}
 use Rattle.meaning.specs.Reply.{Reply}
+use Rattle.desk.specs.Refused.{Unless}
 use Rattle.desk.specs.Tiles.{In, Tiled}
 use Rattle.desk.specs.Whole.{Keeps, Rules, layoutOf, Shaped, Free, Heard, placeOf, sizeOf, partOf, Own, Laid, Opened, Whole}
 use Rattle.desk.specs.Changed.{openedAs, noted, putAt}
 use Rattle.desk.specs.Steps.{Sizes}
 use Rattle.reply.specs.Read.{Is}
 use Rattle.desk.specs.Calls.{Opens, Accepts, Why}
-use Rattle.desk.specs.Promise.{OpeningWhole, RefusedOpeningKeeps, AcceptingKeeps}
+use Rattle.desk.specs.Promise.{FreshWhole, AfterTheLast, OpeningWhole, RefusedOpeningKeeps, AcceptingKeeps}
 use Rattle.desk.specs.declared.Question.{Question}
 use Rattle.desk.specs.declared.Record.{Record}
-use Rattle.desk.proofs.Unique.{through, Passed, passed}
+use Rattle.desk.proofs.Unique.{through, one-open-refusal, Passed, passed}
 
 -- ---- bytes put at a place
 -- a part of the front does not see what comes after
@@ -62,6 +63,12 @@ opening-whole d layout entries number a o store = subst (λ z. Whole z store) (s
 
     whole : layoutOf (openedAs layout entries number .question) ≡ layout
     whole = take-append-seam layout (replicate (32 - length layout) 0)
+
+pub fresh-whole : FreshWhole
+fresh-whole store = Whole.closed refl refl refl (λ f h. silent f h)
+
+pub after-the-last : AfterTheLast
+after-the-last d layout entries number n a l m k o = one-open-refusal d layout entries number n 11 (o .why) (Unless.passed k (Unless.refused (λ h. omega (arith, l, m, h))))
 
 pub refused-opening-keeps : RefusedOpeningKeeps
 refused-opening-keeps d layout entries number m a r o store w = subst (λ z. Whole z store) (sym (o .refused r)) w

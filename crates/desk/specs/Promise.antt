@@ -4,7 +4,8 @@ use mathlib.Core.Path.{_≡_}
 use mathlib.Core.Logic.{_≢_}
 use lib.ListN.{length}
 use Rattle.meaning.specs.Bytes.{Bytes}
-use Rattle.desk.specs.Whole.{Whole}
+use Rattle.desk.specs.Whole.{Keeps, Whole}
+use Rattle.desk.specs.Changed.{blank}
 use Rattle.desk.specs.Calls.{Opens, Accepts, Asks}
 use Rattle.desk.specs.Steps.{Sizes}
 use Rattle.desk.specs.declared.Record.{Record}
@@ -32,3 +33,12 @@ RefusedOpeningKeeps = (d : Record) (layout : Bytes) (entries number m : ℕ) (a 
 -- (an array's length, which a record's type does not tell, is 32)
 abbrev pub AcceptingKeeps : Type 0
 AcceptingKeeps = (d : Record) (store s : Bytes) (m : ℕ) (a : Record) (x : Bytes) → Sizes (d .question) → Accepts d store s m a x → Whole d store → Whole a x
+
+-- a fresh record is whole, with any store
+abbrev pub FreshWhole : Type 0
+FreshWhole = (store : Bytes) → Whole blank store
+
+-- after number 4,294,967,295 every opening that escapes 10 gets 11
+abbrev pub AfterTheLast : Type 0
+AfterTheLast = (d : Record) (layout : Bytes) (entries number n : ℕ) (a : Record) → d .last ≡ 4_294_967_295 → number ≤ 4_294_967_295 → Keeps layout entries
+    → Opens d layout entries number n a → n ≡ 11
