@@ -18,7 +18,8 @@ use Rattle.reply.specs.Post.{Written}
 use Rattle.reply.specs.Read as Read
 use Rattle.reply.proofs.Lists.{tab-length}
 use Rattle.reply.proofs.Round.{size-is}
-use Rattle.depot.specs.Answer.{Call, call, laid, bytes, Unless, refused, passed, Taken, taken, memoryAfter, Answered, Worked}
+use Rattle.meaning.specs.Refused.{Unless, refused, passed, Granted, granted}
+use Rattle.depot.specs.Answer.{Call, call, laid, bytes, memoryAfter, Answered, Worked}
 use Rattle.depot.specs.Formula as Made
 use Rattle.depot.specs.Formula.{Laid, Made}
 use Rattle.depot.proofs.Kept.{rows-ins, ins-few, front-in, formula-in, reply-in}
@@ -81,7 +82,7 @@ module _ (l : L.List) (t : Bytes) (F : Fragment) (part number : ℕ) (keeps : Ke
     pub late-done : {n k need : ℕ} {m work′ out′ : List ℕ} → 4 * size + 12288 ≤ length m → Within size (l .count) o m k → need ≡ length (bytes c) → need ≤ length out
         → Written 12 (replyIn number part (l .count) (F .rows) m (4 * size) k 0 (2 * size)) out out′ n → work′ ≡ replicate (length work) 0 → Worked c work out 0 n work′ out′
     unfolding laidDown
-    late-done {n} {k} {need} {m} {work′} {out′} room w p q x z = record { late = passed (w .few) (passed (omega (arith, p, q)) taken); size-is = y .size-is; zeros = z; buffer = y .bytes }
+    late-done {n} {k} {need} {m} {work′} {out′} room w p q x z = record { late = passed (w .few) (passed (omega (arith, p, q)) granted); size-is = y .size-is; zeros = z; buffer = y .bytes }
       where
         y : Written 12 (laid c) out out′ n
         y = subst (λ r. Written 12 r out out′ n) (ap (λ k. replyIn number part (l .count) (F .rows) m (4 * size) k 0 (2 * size)) (w .count) ∙ reply-in part F sound l t keeps m room (w .few) (w .held) number) x
@@ -98,10 +99,10 @@ module _ (l : L.List) (t : Bytes) (F : Fragment) (part number : ℕ) (keeps : Ke
   write-asks {m} room w h = (omega arith, subst (λ k. FrontIn part (l .count) k (F .rows)) (sym (w .count)) (front-in part F sound l t keeps (w .few)), subst (λ k. FormulaIn 12 m (4 * size) k 0 (2 * size) (l .count)) (sym (w .count)) (formula-in part F sound l t keeps m room (w .few) (w .held)), h)
 
 -- after 8 and 9, and on success, work memory is all zero
-pub late-memory : {A B : Type 0} {r : ℕ} (work : List ℕ) → Unless 8 A (Unless 9 B Taken) r → memoryAfter r work ≡ replicate (length work) 0
+pub late-memory : {A B : Type 0} {r : ℕ} (work : List ℕ) → Unless A 8 (Unless B 9 Granted) r → memoryAfter r work ≡ replicate (length work) 0
 late-memory work (refused h) = refl
 late-memory work (passed a (refused h)) = refl
-late-memory work (passed a (passed b taken)) = refl
+late-memory work (passed a (passed b granted)) = refl
 
 -- 5, 6 and 7
 module _ (c : Call) (work out : List ℕ) where

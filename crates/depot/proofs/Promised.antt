@@ -20,24 +20,17 @@ use Rattle.question.specs.Listed.{Kind, kindOf, EntryRule, Keeps, entryOf, list
 use Rattle.reply.specs.WellFormed.{Result, vars}
 use Rattle.reply.specs.Write.{write}
 use Rattle.reply.proofs.Lists.{tab-length, tab-at}
-use Rattle.depot.specs.Answer.{Call, call, laid, bytes, Unless, refused, passed, Taken, taken, Late, Refusal, Answered, memoryAfter, bufferAfter}
+use Rattle.meaning.specs.Refused.{Unless, refused, passed, Granted, granted}
+use Rattle.meaning.proofs.Refused.{One, one-granted, one-unless, beyond}
+use Rattle.depot.specs.Answer.{Call, call, laid, bytes, Late, Refusal, Answered, memoryAfter, bufferAfter}
 use Rattle.depot.specs.Promise.{OneAnswer, OnlyEight, NeverEight, LaidWellFormed, LaidBound, SameUse, Agree, UnusedIgnored}
 use Rattle.depot.proofs.Kept.{ins-few, whole}
 use Rattle.depot.proofs.Laid.{keeps-earlier, ins-fit, ins-differ, no-steps}
 use Rattle.depot.proofs.Sweeps.{listed-length}
 
 -- ONE ANSWER
-unless-one : {n : ℕ} {A : Type 0} (P : ℕ → Type 0) → ((r r′ : ℕ) → P r → P r′ → r ≡ r′) → (r r′ : ℕ) → Unless n A P r → Unless n A P r′ → r ≡ r′
-unless-one P h r r′ (refused a) (refused b) = refl
-unless-one P h r r′ (refused a) (passed b q) = absurd (a b)
-unless-one P h r r′ (passed a p) (refused b) = absurd (b a)
-unless-one P h r r′ (passed a p) (passed b q) = h r r′ p q
-
-taken-one : (r r′ : ℕ) → Taken r → Taken r′ → r ≡ r′
-taken-one r r′ taken taken = refl
-
-refusal-one : (c : Call) (work out : List ℕ) (r r′ : ℕ) → Refusal c work out r → Refusal c work out r′ → r ≡ r′
-refusal-one c work out = unless-one _ (unless-one _ (unless-one _ (unless-one _ (unless-one _ taken-one))))
+refusal-one : (c : Call) (work out : List ℕ) → One (Refusal c work out)
+refusal-one c work out = one-unless (one-unless (one-unless (one-unless (one-unless one-granted))))
 
 pub one-answer : OneAnswer
 one-answer c work out r size w o r′ size′ w′ o′ a b =
@@ -49,11 +42,7 @@ one-answer c work out r size w o r′ size′ w′ o′ a b =
     )
 
 -- ONLY EIGHT
-unless-passed : {n : ℕ} {A : Type 0} {P : ℕ → Type 0} {r : ℕ} → A → Unless n A P r → P r
-unless-passed a (refused h) = absurd (h a)
-unless-passed a (passed b p) = p
-
-unless-map : {n : ℕ} {A B : Type 0} {P Q : ℕ → Type 0} {r : ℕ} → (A → B) → (B → A) → (P r → Q r) → Unless n A P r → Unless n B Q r
+unless-map : {n : ℕ} {A B : Type 0} {P Q : ℕ → Type 0} {r : ℕ} → (A → B) → (B → A) → (P r → Q r) → Unless A n P r → Unless B n Q r
 unless-map f g h (refused a) = refused (λ b. a (g b))
 unless-map f g h (passed a p) = passed (f a) (h p)
 
@@ -62,13 +51,13 @@ last-two c out r h (refused a) = inr (refl, few)
   where
     few : 4096 < length (laid c .steps)
     few = elim (decLt 4096 (length (laid c .steps))) [ yes k ↦ k | no k ↦ absurd (a (omega arith)) ]
-last-two c out r h (passed a p) = inl (done r (unless-passed h p))
+last-two c out r h (passed a p) = inl (done r (beyond h p))
   where
-    done : (r : ℕ) → Taken r → r ≡ 0
-    done r taken = refl
+    done : (r : ℕ) → Granted r → r ≡ 0
+    done r granted = refl
 
 pub only-eight : OnlyEight
-only-eight c work out r size w o a l m = last-two c out r (m .room) (unless-passed (m .memory) (unless-passed (l .sound) (unless-passed (l .keeps, l .asked) (a .refusal))))
+only-eight c work out r size w o a l m = last-two c out r (m .room) (beyond (m .memory) (beyond (l .sound) (beyond (l .keeps, l .asked) (a .refusal))))
 
 pub never-eight : NeverEight
 unfolding laidDown
@@ -170,7 +159,7 @@ module _ (l l′ : L.List) (a : Agree l l′) (t : Bytes) where
       refusal = unless-map (λ k. (keeps-on (k .0), k .1)) (λ k. (keeps-back (k .0), k .1))
           (unless-map (λ s. s) (λ s. s)
           (unless-map (subst (λ n. 4 * (rowCount F * n) + 12288 ≤ length work) (a .count)) (subst (λ n. 4 * (rowCount F * n) + 12288 ≤ length work) (sym (a .count)))
-          (subst (λ y. Unless 8 (length (y .steps) ≤ 4096) (Unless 9 (length (write 12 y) ≤ length out) Taken) r) laid-same))) (x .refusal);
+          (subst (λ y. Unless (length (y .steps) ≤ 4096) 8 (Unless (length (write 12 y) ≤ length out) 9 Granted) r) laid-same))) (x .refusal);
       size-is = x .size-is ∙ ap (λ y. cond (eqb r 0) (length (write 12 y)) 0) laid-same;
       memory = x .memory;
       buffer = x .buffer ∙ ap (λ y. cond (eqb r 0) (write 12 y ++ drop (length (write 12 y)) out) out) laid-same;

@@ -5,6 +5,7 @@ use mathlib.Core.Bool.{_||_, cond}
 use mathlib.Core.List.{List, _++_}
 use lib.ListN.{length, drop, replicate}
 use lib.Dec.{eqb}
+use Rattle.meaning.specs.Refused.{Unless, Granted}
 use Rattle.meaning.specs.Bytes.{Bytes}
 use Rattle.meaning.specs.Fragment.{Fragment, Sound, rowCount, rowsOf}
 use Rattle.meaning.specs.Reply.{Reply, laidDown}
@@ -30,24 +31,16 @@ laid c = laidDown (rowsOf (c .fragment)) (listed (c .list) (c .text)) (c .number
 abbrev pub bytes : Call → Bytes
 bytes c = write 12 (laid c)
 
--- refused with n unless A holds; where it does, as P says
-pub data Unless (n : ℕ) (A : Type 0) (P : ℕ → Type 0) : ℕ → Type 0 where
-  refused : (A → ⊥) → Unless n A P n
-  passed : {r : ℕ} → A → P r → Unless n A P r
-
-pub data Taken : ℕ → Type 0 where
-  taken : Taken 0
-
 -- 8 and 9, once there is work to do
 abbrev pub Late : Call → List ℕ → ℕ → Type 0
-Late c out = Unless 8 (length (laid c .steps) ≤ 4096) (Unless 9 (length (bytes c) ≤ length out) Taken)
+Late c out = Unless (length (laid c .steps) ≤ 4096) 8 (Unless (length (bytes c) ≤ length out) 9 Granted)
 
 -- THE REFUSALS in order, 0 for none
 abbrev pub Refusal : Call → List ℕ → List ℕ → ℕ → Type 0
 Refusal c work out =
-    Unless 5 (Keeps (c .list) (c .text) × (0 < c .number))
-    (Unless 6 (Sound (c .part) (c .fragment))
-    (Unless 7 (4 * (rowCount (c .fragment) * c .list .count) + 12288 ≤ length work)
+    Unless (Keeps (c .list) (c .text) × (0 < c .number)) 5
+    (Unless (Sound (c .part) (c .fragment)) 6
+    (Unless (4 * (rowCount (c .fragment) * c .list .count) + 12288 ≤ length work) 7
     (Late c out)))
 
 -- work memory is unchanged after 5, 6, 7 and all zero otherwise

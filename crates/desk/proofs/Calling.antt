@@ -19,7 +19,7 @@ use Rattle.reply.specs.Read.{Is, read}
 use Rattle.reply.specs.Post.{HeadIs}
 use Rattle.reply.specs.declared.Head.{Head}
 use Rattle.reply.proofs.Round.{is-the, some-is, sound-of}
-use Rattle.desk.specs.Refused.{refused, passed, granted}
+use Rattle.meaning.specs.Refused.{refused, passed, granted}
 use Rattle.desk.specs.Whole.{Keeps, Free, Judging, Heard, partOf, Opened, Whole}
 use Rattle.desk.specs.Steps.{Judged}
 use Rattle.desk.specs.Values.{AllHeard, kept, answerOf}

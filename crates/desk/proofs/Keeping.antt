@@ -9,7 +9,7 @@ use lib.ListN.{length, getD, set, take, drop, replicate, length-append, length-d
 use lib.Seq.{length-take-le, take-append-le, drop-append-le, take-append-seam, drop-at, take-at, getD-set-same, getD-set-other}
 use Rattle.meaning.specs.Bytes.{Bytes}
 use Rattle.meaning.specs.Reply.{Reply}
-use Rattle.desk.specs.Refused.{Unless}
+use Rattle.meaning.specs.Refused.{Unless}
 use Rattle.desk.specs.Tiles.{In, Tiled}
 use Rattle.desk.specs.Whole.{Keeps, Rules, layoutOf, Shaped, Free, Heard, placeOf, sizeOf, partOf, Own, Laid, Opened, Whole}
 use Rattle.desk.specs.Changed.{openedAs, noted, putAt}
@@ -19,7 +19,8 @@ use Rattle.desk.specs.Calls.{Opens, Accepts, Why}
 use Rattle.desk.specs.Promise.{FreshWhole, AfterTheLast, OpeningWhole, RefusedOpeningKeeps, AcceptingKeeps}
 use Rattle.desk.specs.declared.Question.{Question}
 use Rattle.desk.specs.declared.Record.{Record}
-use Rattle.desk.proofs.Unique.{through, one-open-refusal, Passed, passed}
+use Rattle.desk.proofs.Unique.{one-open-refusal, Passed, passed}
+use Rattle.meaning.proofs.Refused.{through}
 
 -- ---- bytes put at a place
 -- a part of the front does not see what comes after

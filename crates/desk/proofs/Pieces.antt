@@ -17,7 +17,7 @@ use Rattle.reply.specs.Read.{inAt, read, Is}
 use Rattle.reply.specs.Post.{HeadIs, verdict}
 use Rattle.reply.specs.declared.Head.{Head}
 use Rattle.reply.proofs.Round.{Fields, fields-of, check-reply, check-none, is-the, sound-of}
-use Rattle.desk.specs.Refused.{refused, passed, granted}
+use Rattle.meaning.specs.Refused.{refused, passed, granted}
 use Rattle.desk.specs.Whole.{layoutOf, Rules, Shaped, Free, Heard, placeOf, sizeOf, partOf, Own, Laid, Opened, Whole, closed, opened}
 use Rattle.desk.specs.Steps.{StandsFor, Judged, Starts, PartOk, FragmentOk}
 use Rattle.desk.specs.declared.Question.{Question}

@@ -8,27 +8,11 @@ use lib.ListN.{length}
 use Rattle.meaning.specs.Bytes.{Bytes}
 use Rattle.meaning.specs.Reply.{Reply}
 use Rattle.reply.specs.Read.{Is}
-use Rattle.desk.specs.Refused.{Unless, Granted}
+use Rattle.meaning.proofs.Refused.{One, one-granted, one-unless, through}
 use Rattle.desk.specs.Whole.{Whole, Heard, Shaped}
 use Rattle.desk.specs.Calls.{Opens, Accepts, Asks, Why, OpenRefusal, AskRefusal}
 use Rattle.desk.specs.Promise.{OneOpening, OneAccepting, OneAsking}
 use Rattle.desk.specs.declared.Record.{Record}
-
-abbrev pub One : (ℕ → Type 0) → Type 0
-One P = (m n : ℕ) → P m → P n → m ≡ n
-
-one-granted : One Granted
-one-granted m n Granted.granted Granted.granted = refl
-
-one-unless : {A : Type 0} {c : ℕ} {P : ℕ → Type 0} → One P → One (Unless A c P)
-one-unless h m n (Unless.refused x) (Unless.refused y) = refl
-one-unless h m n (Unless.refused x) (Unless.passed b q) = absurd (x b)
-one-unless h m n (Unless.passed a p) (Unless.refused y) = absurd (y a)
-one-unless h m n (Unless.passed a p) (Unless.passed b q) = h m n p q
-
-pub through : {A : Type 0} {c n : ℕ} {P : ℕ → Type 0} → n ≢ c → Unless A c P n → A × P n
-through h (Unless.refused x) = absurd (h refl)
-through h (Unless.passed a p) = (a, p)
 
 pub one-why : (d : Record) (store s : Bytes) → One (Why d store s)
 one-why d store s = one-unless (one-unless (one-unless (one-unless (one-unless (one-unless (one-unless one-granted))))))

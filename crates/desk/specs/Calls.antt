@@ -10,7 +10,7 @@ use Rattle.meaning.specs.Bytes.{Bytes}
 use Rattle.meaning.specs.Reply.{Reply}
 use Rattle.meaning.specs.Solve.{Outcome, waiting, said, outcome}
 use Rattle.reply.specs.Read.{read, Is}
-use Rattle.desk.specs.Refused.{Unless, Granted}
+use Rattle.meaning.specs.Refused.{Unless, Granted}
 use Rattle.desk.specs.Whole.{Keeps, Judging, Heard, partOf, Whole}
 use Rattle.desk.specs.Changed.{openedAs, noted, putAt}
 use Rattle.desk.specs.declared.Question.{Question}

@@ -1,5 +1,4 @@
--- What a reader believes: Refused, Tiles, Whole, Changed, Calls, Promise. The rest is what inner functions' contracts cite.
-pub mod Refused
+-- What a reader believes: Tiles, Whole, Changed, Calls, Promise. The rest is what inner functions' contracts cite.
 pub mod Tiles
 pub mod Whole
 pub mod Changed

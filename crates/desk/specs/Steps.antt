@@ -5,7 +5,7 @@ use mathlib.Core.Logic.{_⊎_}
 use lib.ListN.{length}
 use Rattle.meaning.specs.Bytes.{Bytes}
 use Rattle.reply.specs.Read.{inAt}
-use Rattle.desk.specs.Refused.{Granted}
+use Rattle.meaning.specs.Refused.{Granted}
 use Rattle.desk.specs.Whole.{Judging, Heard, placeOf, sizeOf, Own}
 use Rattle.desk.specs.declared.Question.{Question}
 

@@ -8,7 +8,7 @@ use Rattle.meaning.specs.Bytes.{Bytes}
 use Rattle.meaning.specs.Reply.{Reply}
 use Rattle.meaning.specs.Register.{Layout, childrenOf}
 use Rattle.reply.specs.Read.{Is}
-use Rattle.desk.specs.Refused.{Unless, Granted}
+use Rattle.meaning.specs.Refused.{Unless, Granted}
 use Rattle.desk.specs.Tiles.{Tiled}
 use Rattle.desk.specs.declared.Question.{Question}
 use Rattle.desk.specs.declared.Record.{Record}

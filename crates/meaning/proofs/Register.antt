@@ -213,7 +213,7 @@ module _ (G : Register) where
         s = c .has (suc g) (omega arith) (r .0) .1
 
 -- THE CHILDREN OF A FRAGMENT in a layout
-numbered-in : (k : ℕ) (l : Bytes) (i g : ℕ) → List·Memᴰ g (numbered k l i) → (j : ℕ) × (j < length l) × (g ≡ j + i) × (getD l j 255 ≡ k)
+pub numbered-in : (k : ℕ) (l : Bytes) (i g : ℕ) → List·Memᴰ g (numbered k l i) → (j : ℕ) × (j < length l) × (g ≡ j + i) × (getD l j 255 ≡ k)
 unfolding numbered
 numbered-in k [] i g m = absurd (List·Memᴰ·not-nil m)
 numbered-in k (p ∷ l) i g m = go (eqb p k) refl (numbered-in k l (suc i) g) m
@@ -232,7 +232,7 @@ numbered-in k (p ∷ l) i g m = go (eqb p k) refl (numbered-in k l (suc i) g) m
     go true e h x = first (eqb-is p k e) h x
     go false e h x = later (h x)
 
-in-numbered : (k : ℕ) (l : Bytes) (i j : ℕ) → j < length l → getD l j 255 ≡ k → List·Memᴰ (j + i) (numbered k l i)
+pub in-numbered : (k : ℕ) (l : Bytes) (i j : ℕ) → j < length l → getD l j 255 ≡ k → List·Memᴰ (j + i) (numbered k l i)
 unfolding numbered
 in-numbered k [] i j h e = absurd (omega arith)
 in-numbered k (p ∷ l) i zero h e = rw (e, eqb-true k) (List·Memᴰ·head (zero-add i))

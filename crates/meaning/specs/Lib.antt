@@ -1,5 +1,6 @@
 -- What a reader must believe of questions, rows, formulas and registers; `Promise` says what is proved of them.
 pub mod Says
+pub mod Refused
 pub mod Bytes
 pub mod Question
 pub mod Tree

@@ -25,7 +25,7 @@ use Rattle.reply.proofs.Round.{most-bytes}
 use Rattle.depot.specs.Answer.{call, laid, bytes, Answered}
 use Rattle.depot.proofs.Laid.{keeps-earlier, no-steps}
 use Rattle.depot.proofs.Promised.{never-eight, laid-well-formed}
-use Rattle.desk.specs.Refused.{Unless, Granted}
+use Rattle.meaning.specs.Refused.{Unless, Granted}
 use Rattle.desk.specs.Calls.{Opens, Accepts, Asks}
 use Rattle.desk.proofs.Unique.{one-open-refusal}
 use Rattle.desk.specs.declared.Record.{Record}

@@ -24,11 +24,12 @@ use Rattle.reply.specs.Read.{Is, read}
 use Rattle.reply.proofs.Round.{fits-12, write-read}
 use Rattle.depot.proofs.Sweeps.{listed-length}
 use Rattle.depot.proofs.Promised.{laid-bound}
-use Rattle.desk.specs.Refused.{Unless, Granted}
+use Rattle.meaning.specs.Refused.{Unless, Granted}
 use Rattle.desk.specs.Whole.{Whole, partOf}
 use Rattle.desk.specs.Changed.{openedAs}
 use Rattle.desk.specs.Calls.{Opens, Accepts, Asks, Why, held, saidOf}
-use Rattle.desk.proofs.Unique.{one-why, one-ask-refusal, through}
+use Rattle.desk.proofs.Unique.{one-why, one-ask-refusal}
+use Rattle.meaning.proofs.Refused.{through}
 use Rattle.desk.proofs.Keeping.{opening-whole}
 use Rattle.desk.specs.declared.Record.{Record}
 use Rattle.register.specs.Round.{Round, callOf, replyOf, bytesOf, Asked, Yes}

@@ -28,7 +28,7 @@ use Rattle.reply.proofs.Round.{fits-12, write-read, one-reply}
 use Rattle.depot.proofs.Laid.{keeps-earlier}
 use Rattle.depot.proofs.Sweeps.{listed-length}
 use Rattle.depot.proofs.Promised.{laid-well-formed}
-use Rattle.desk.specs.Refused.{Unless, Granted}
+use Rattle.meaning.specs.Refused.{Unless, Granted}
 use Rattle.desk.specs.Whole.{Whole, Opened, Heard, Shaped, layoutOf, partOf}
 use Rattle.desk.specs.Steps.{Sizes}
 use Rattle.desk.specs.Calls.{Opens, Accepts, Asks, Why, Room, held, saidOf, AskRefusal}

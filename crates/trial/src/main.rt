@@ -16,7 +16,7 @@ struct Turn {
 }
 
 fn main() {
-    io::write_all(1, b"     entries  reply bytes  answer  question\n");
+    io::write_all(1, b"   entries  reply bytes      answer  question\n");
     show(b"a", b"//lift[brake/text()=\"B17\"]");
     show(b"b", b"//lift[brake/text()=\"B09\"&!mark]");
     show(b"c", b"//firm");
@@ -48,7 +48,7 @@ fn show(name: &[u8], text: &[u8]) {
     let n1 = io::count(size1, &out1);
     let n2 = io::count(size2, &out2);
     io::write_all(1, name);
-    io::write_all(1, b"  ");
+    io::write_all(1, b"      ");
     padded(list.count as u64);
     padded(n0 as u64);
     padded(n1 as u64);

@@ -4,7 +4,7 @@ use Rattle.meaning.proofs.Says.{says-true, says-false}
 use Rattle.reply.proofs.Tests.{says-yes, says-no}
 use Rattle.desk.proofs.Calling.{judging-refused, judging-passed, not-heard, heard-before}
 use Rattle.desk.proofs.Pieces.{long-enough, was-open}
-use Rattle.desk.specs.Refused.{refused, passed, granted}
+use Rattle.meaning.specs.Refused.{refused, passed, granted}
 use borrow.Author.Needs.{needs}
 use Rattle.desk.proofs.why.Statement.{statement}
 use Rattle.desk.proofs.why.Tie as tie
