@@ -1,15 +1,10 @@
 /* Calls the check of crate reply as a C host does, and compares each answer with what 01, "The reply's bits", lays down.
    The replies are put together here, bit by bit, from 01's words alone: nothing of the crate's own writer is used. */
 
-/* no header of the machine, so that this compiles for x86-64 on Arm too */
-typedef unsigned char uint8_t;
-typedef unsigned int uint32_t;
-typedef unsigned long size_t;
-extern int printf(const char *, ...);
-extern void *memset(void *, int, size_t);
-extern int memcmp(const void *, const void *, size_t);
+#include "register_box.h"
 
-extern uint8_t reply_check(const uint8_t *bytes, size_t length);
+#include <stdio.h>
+#include <string.h>
 
 enum { NONE, YES, VAR, STEP };            /* kinds of reference */
 enum { AND, OR, NOT };                    /* operations of a step */
@@ -252,48 +247,48 @@ static void no_reply(void)
 
 static void bad_head(void)
 {
-    r = base, r.number = 0, bad("number 0", &r);
-    r = base, r.steps = MOST_STEPS + 1, r.ins = 0, r.entries = 1;
+    r = base; r.number = 0; bad("number 0", &r);
+    r = base; r.steps = MOST_STEPS + 1; r.ins = 0; r.entries = 1;
     for (unsigned i = 0; i <= MOST_STEPS; i++)
         r.step[i] = (struct step){NOT, i ? step(i - 1) : step(0), none};
     bad("4,097 steps", &r);
-    r = base, r.in[0] = 3, bad("a stand-in equal to the fragment", &r);
-    r = base, r.in[0] = 2, bad("a stand-in below the fragment", &r);
-    r = base, r.ins = 2, r.in[1] = 7, bad("repeated stand-ins", &r);
-    r = base, r.ins = 3, r.in[1] = 9, r.in[2] = 7, bad("repeated stand-ins, another between", &r);
-    r = base, r.ins = 2, r.in[1] = 5, good("two stand-ins, falling", &r);
+    r = base; r.in[0] = 3; bad("a stand-in equal to the fragment", &r);
+    r = base; r.in[0] = 2; bad("a stand-in below the fragment", &r);
+    r = base; r.ins = 2; r.in[1] = 7; bad("repeated stand-ins", &r);
+    r = base; r.ins = 3; r.in[1] = 9; r.in[2] = 7; bad("repeated stand-ins, another between", &r);
+    r = base; r.ins = 2; r.in[1] = 5; good("two stand-ins, falling", &r);
 }
 
 static void bad_steps(void)
 {
     for (unsigned op = AND; op <= NOT; op++) {
-        r = base, r.step[1].op = op, r.step[1].right = op == NOT ? none : var(3), good("each operation", &r);
-        r.step[1].left = none, bad("false as left operand", &r);
-        r.step[1].left = yes, bad("true as left operand", &r);
-        r.step[1].left = step(1), bad("a step that points at itself", &r);
-        r.step[1].left = step(2), bad("a later step", &r);
-        r.step[1].left = var(4), bad("a variable that doesn't exist", &r);
+        r = base; r.step[1].op = op; r.step[1].right = op == NOT ? none : var(3); good("each operation", &r);
+        r.step[1].left = none; bad("false as left operand", &r);
+        r.step[1].left = yes; bad("true as left operand", &r);
+        r.step[1].left = step(1); bad("a step that points at itself", &r);
+        r.step[1].left = step(2); bad("a later step", &r);
+        r.step[1].left = var(4); bad("a variable that doesn't exist", &r);
     }
-    r = base, r.step[1].op = 3, r.step[1].right = var(0), bad("an operation that doesn't exist", &r);
-    r = base, r.step[0].right = none, bad("false as right operand", &r);
-    r = base, r.step[0].right = yes, bad("true as right operand", &r);
-    r = base, r.step[0].right = step(0), bad("itself on the right", &r);
-    r = base, r.step[0].right = step(1), bad("a later step on the right", &r);
-    r = base, r.step[0].right = var(4), bad("no such variable on the right", &r);
-    r = base, r.step[1].right = yes, bad("a second operand of not: kind", &r);
-    r = base, r.step[1].right.number = 1, bad("a second operand of not: number", &r);
-    r = base, r.step[1].right = var(0), bad("a second operand of not: a variable", &r);
+    r = base; r.step[1].op = 3; r.step[1].right = var(0); bad("an operation that doesn't exist", &r);
+    r = base; r.step[0].right = none; bad("false as right operand", &r);
+    r = base; r.step[0].right = yes; bad("true as right operand", &r);
+    r = base; r.step[0].right = step(0); bad("itself on the right", &r);
+    r = base; r.step[0].right = step(1); bad("a later step on the right", &r);
+    r = base; r.step[0].right = var(4); bad("no such variable on the right", &r);
+    r = base; r.step[1].right = yes; bad("a second operand of not: kind", &r);
+    r = base; r.step[1].right.number = 1; bad("a second operand of not: number", &r);
+    r = base; r.step[1].right = var(0); bad("a second operand of not: a variable", &r);
 }
 
 static void bad_results(void)
 {
-    r = base, r.v[0].number = 1, bad("false with a number", &r);
-    r = base, r.d[0].number = 4095, bad("true with a number", &r);
-    r = base, r.v[1] = step(2), bad("V: a step that doesn't exist", &r);
-    r = base, r.d[1] = step(2), bad("D: a step that doesn't exist", &r);
-    r = base, r.v[1] = var(4), bad("V: a variable that doesn't exist", &r);
-    r = base, r.d[1] = var(4), bad("D: a variable that doesn't exist", &r);
-    r = base, r.ins = 0, r.steps = 0, r.v[1] = none, bad("a variable without a stand-in", &r);
+    r = base; r.v[0].number = 1; bad("false with a number", &r);
+    r = base; r.d[0].number = 4095; bad("true with a number", &r);
+    r = base; r.v[1] = step(2); bad("V: a step that doesn't exist", &r);
+    r = base; r.d[1] = step(2); bad("D: a step that doesn't exist", &r);
+    r = base; r.v[1] = var(4); bad("V: a variable that doesn't exist", &r);
+    r = base; r.d[1] = var(4); bad("D: a variable that doesn't exist", &r);
+    r = base; r.ins = 0; r.steps = 0; r.v[1] = none; bad("a variable without a stand-in", &r);
 }
 
 int main(void)
@@ -306,8 +301,8 @@ int main(void)
     bad_steps();
     bad_results();
     sweep("base", &base);
-    r = base, r.ins = 2, r.in[1] = 12, sweep("two stand-ins", &r);
-    r = base, r.ins = 0, r.steps = 0, r.v[1] = yes, r.d[1] = none, sweep("constants", &r);
+    r = base; r.ins = 2; r.in[1] = 12; sweep("two stand-ins", &r);
+    r = base; r.ins = 0; r.steps = 0; r.v[1] = yes; r.d[1] = none; sweep("constants", &r);
     printf("reply_check: %d answers, %d wrong\n", asked, wrong);
     return wrong != 0;
 }

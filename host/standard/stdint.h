@@ -1,0 +1,6 @@
+#ifndef STANDARD_STDINT_H
+#define STANDARD_STDINT_H
+typedef __UINT8_TYPE__ uint8_t;
+typedef __UINT16_TYPE__ uint16_t;
+typedef __UINT32_TYPE__ uint32_t;
+#endif
