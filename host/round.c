@@ -90,6 +90,12 @@ static void asked(void)
     printf("  %-34s %s\n", "the desk, asked", saying(ask()));
 }
 
+static void open_question(uint32_t number, size_t entries)
+{
+    unsigned refusal = desk_open(&desk, layout, BOXES, entries, number);
+    printf("  %-34s %s\n", "the desk opens the question", refusal == 0 ? "opened" : words(refusal));
+}
+
 static void slow_round(void)
 {
     asked();
@@ -105,7 +111,8 @@ static void slow_round(void)
     asked();
 }
 
-/* Opens question `number` and hands in the three replies in this order; 0 where anything is refused or said before the last. */
+/* Opens the question at a fresh desk and hands in the three replies in this order: the answer, or waiting where anything is refused or said
+   before the last. */
 static int answer_in_order(const int order[BOXES], size_t entries)
 {
     desk = desk_fresh();
@@ -166,11 +173,10 @@ int main(int argc, char **argv)
     }
     printf("\nThe replies have %zu, %zu and %zu bytes\n", replies[0].size, replies[1].size, replies[2].size);
     desk = desk_fresh();
-    desk_open(&desk, layout, BOXES, read.list.count, NUMBER);
+    open_question(NUMBER, read.list.count);
     slow_round();
-
-    printf("\nQuestion %d is opened, the same again\n", NUMBER + 1);
-    desk_open(&desk, layout, BOXES, read.list.count, NUMBER + 1);
+    printf("\nThe same question is asked again, as number %d\n", NUMBER + 1);
+    open_question(NUMBER + 1, read.list.count);
     hand_in("box 2's reply to question 7, late", &replies[2], replies[2].size);
     asked();
 
