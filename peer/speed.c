@@ -180,7 +180,7 @@ int main(void)
     document = xmlReadMemory(xml, (int)xml_used, "register.xml", NULL, 0);
     context = document == NULL ? NULL : xmlXPathNewContext(document);
     if (row_count != ROWS || context == NULL) {
-        fprintf(stderr, "bench: the register could not be made\n");
+        fprintf(stderr, "speed: the register could not be made\n");
         return 2;
     }
     printf("%d rows in one box; microseconds a call\n", ROWS);
@@ -188,7 +188,7 @@ int main(void)
     printf("answer   read   depot    desk  compile  evaluate  question\n");
     for (size_t q = 0; q < QUESTIONS; q++) {
         if (!read_ours(q) || !depot_ours(q) || !compile_peers(q)) {
-            fprintf(stderr, "bench: refused: %s\n", questions[q].ours);
+            fprintf(stderr, "speed: refused: %s\n", questions[q].ours);
             return 2;
         }
         int said = desk_ours(q), agree = said == evaluate_peers(q);
