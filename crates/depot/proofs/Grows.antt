@@ -139,7 +139,7 @@ module _ (R : Rows) (es : List (Entry Bytes)) (varV varD : ℕ → ℕ → Ref) 
   unfolding row
   row-grows k S = go (R .stands k)
     where
-      go : (b : Bool) → length (S .st) ≤ length (cond {A = Vectors formula} b (record { st = S .st; near = varV k; far = varD k }) (visit formula (λ w. labelIs w (R .label k)) (λ w. textIs w (R .text k)) (S .c k) es 0 (S .st) (λ e. Ref.low) (S .d k)) .st)
+      go : (b : Bool) → length (S .st) ≤ length (cond {A = Vectors formula} b (record { st = S .st; v = varV k; d = varD k }) (visit formula (λ w. labelIs w (R .label k)) (λ w. textIs w (R .text k)) (S .c k) es 0 (S .st) (λ e. Ref.low) (S .d k)) .st)
       go true = le-refl _
       go false = visit-grows (λ w. labelIs w (R .label k)) (λ w. textIs w (R .text k)) (S .c k) es 0 (S .st) (λ e. Ref.low) (S .d k)
 
@@ -147,7 +147,7 @@ module _ (R : Rows) (es : List (Entry Bytes)) (varV varD : ℕ → ℕ → Ref) 
   unfolding deliver
   deliver-grows k S =
       let r = row formula R es varV varD k S in
-      omega (arith, row-grows k S, push-grows (r .near) (r .far) (length es) 0 (r .st) (S .c (R .parent k)) (S .d (R .parent k)))
+      omega (arith, row-grows k S, push-grows (r .v) (r .d) (length es) 0 (r .st) (S .c (R .parent k)) (S .d (R .parent k)))
 
   pub sweep-grows : (k : ℕ) (S : Tables formula) → length (S .st) ≤ length (sweep formula R es varV varD k S .st)
   unfolding sweep

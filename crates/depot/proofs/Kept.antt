@@ -193,14 +193,14 @@ module _ (part : ℕ) (F : Fragment) (s : Sound part F) (l : L.List) (t : Bytes)
           single = λ e. number-at i 2 a (omega arith) ∙ g .single (sym (op-at i a) ∙ e);
         }
 
-    near-at : (e : ℕ) → e < l .count → getD m (0 + e) 0 ≡ code (o .near e)
-    near-at e a = ap (λ q. getD m q 0) (zero-add e) ∙ h .near e a
+    v-at : (e : ℕ) → e < l .count → getD m (0 + e) 0 ≡ code (o .v e)
+    v-at e a = ap (λ q. getD m q 0) (zero-add e) ∙ h .v e a
 
-    near-fine : (e : ℕ) → e < l .count → Result vars (length (o .st)) (o .near e)
-    near-fine e a = whole .near e (omega (arith, listed-length l t))
+    v-fine : (e : ℕ) → e < l .count → Result vars (length (o .st)) (o .v e)
+    v-fine e a = whole .v e (omega (arith, listed-length l t))
 
-    far-fine : (e : ℕ) → e < l .count → Result vars (length (o .st)) (o .far e)
-    far-fine e a = whole .far e (omega (arith, listed-length l t))
+    d-fine : (e : ℕ) → e < l .count → Result vars (length (o .st)) (o .d e)
+    d-fine e a = whole .d e (omega (arith, listed-length l t))
 
     few-cells : l .count ≤ size
     few-cells = omega (arith, mul-le-mul-right (l .count) (s .some-row))
@@ -211,8 +211,8 @@ module _ (part : ℕ) (F : Fragment) (s : Sound part F) (l : L.List) (t : Bytes)
       v-inside = omega (arith, few-cells);
       d-inside = omega (arith, few-cells);
       steps-good = steps-good;
-      v-good = λ e a. subst (RefCode 12) (sym (near-at e a)) (ref-good vars (length (o .st)) vars-few few (o .near e) (near-fine e a));
-      d-good = λ e a. subst (RefCode 12) (sym (h .far e a)) (ref-good vars (length (o .st)) vars-few few (o .far e) (far-fine e a));
+      v-good = λ e a. subst (RefCode 12) (sym (v-at e a)) (ref-good vars (length (o .st)) vars-few few (o .v e) (v-fine e a));
+      d-good = λ e a. subst (RefCode 12) (sym (h .d e a)) (ref-good vars (length (o .st)) vars-few few (o .d e) (d-fine e a));
     }
 
     steps-are : stepsAt m (4 * size) (length (o .st)) ≡ o .st
@@ -234,8 +234,8 @@ module _ (part : ℕ) (F : Fragment) (s : Sound part F) (l : L.List) (t : Bytes)
       entries = count i;
       ins = rows-ins i;
       steps = steps-are i;
-      v = (refs-are 0 (o .near) near-at near-fine ∙ ap (λ n. tabulated n 0 (o .near)) count) i;
-      d = (refs-are (2 * size) (o .far) (h .far) far-fine ∙ ap (λ n. tabulated n 0 (o .far)) count) i;
+      v = (refs-are 0 (o .v) v-at v-fine ∙ ap (λ n. tabulated n 0 (o .v)) count) i;
+      d = (refs-are (2 * size) (o .d) (h .d) d-fine ∙ ap (λ n. tabulated n 0 (o .d)) count) i;
     }
       where
         count : l .count ≡ length es

@@ -84,8 +84,8 @@ laid-well-formed c l small few =
       ins-differ = ins-differ (c .part) (c .fragment) (l .sound);
       few-steps = few;
       operands = w .good .each;
-      v-good = λ e h. subst (Result _ _) (sym (tab-at _ e _ Ref.low h)) (w .near e h);
-      d-good = λ e h. subst (Result _ _) (sym (tab-at _ e _ Ref.low h)) (w .far e h);
+      v-good = λ e h. subst (Result _ _) (sym (tab-at _ e _ Ref.low h)) (w .v e h);
+      d-good = λ e h. subst (Result _ _) (sym (tab-at _ e _ Ref.low h)) (w .d e h);
     }
 
 pub laid-bound : LaidBound

@@ -7,7 +7,7 @@ use mathlib.Core.List.{List}
 use lib.ListN.{length, getD, set}
 use lib.Seq.{getD-set-same, getD-set-other}
 use Rattle.meaning.specs.Formula.{Ref, Step, joined, formula}
-use Rattle.meaning.specs.Run.{Vectors, upd, push}
+use Rattle.meaning.specs.Run.{Delivered, upd, push}
 use Rattle.reply.specs.Codes.{code}
 use Rattle.depot.specs.Flat.{St, Got, across, joinF, orInto, liftF}
 use Rattle.depot.proofs.Held.{Held, Sim, live, after, mapped, Gave, join-sim}
@@ -47,10 +47,10 @@ record Pushing (size at up n : ℕ) (m : List ℕ) (s : List Step) (v d pc pd : 
 abbrev pub Rest : ℕ → ℕ → ℕ → List ℕ → List ℕ → Type 0
 Rest size up n m m′ = (j : ℕ) → j < 4 * size → ((e : ℕ) → e < n → j ≡ size + up + e → ⊥) → ((e : ℕ) → e < n → j ≡ 2 * size + up + e → ⊥) → getD m′ j 0 ≡ getD m j 0
 
-pub record Pushed (size up n : ℕ) (m m′ : List ℕ) (o : Vectors formula) : Type 0 where
+pub record Pushed (size up n : ℕ) (m m′ : List ℕ) (o : Delivered formula) : Type 0 where
   pub held : Held size m′ (o .st)
-  pub near : (e : ℕ) → e < n → getD m′ (size + up + e) 0 ≡ code (o .near e)
-  pub far : (e : ℕ) → e < n → getD m′ (2 * size + up + e) 0 ≡ code (o .far e)
+  pub c : (e : ℕ) → e < n → getD m′ (size + up + e) 0 ≡ code (o .c e)
+  pub d : (e : ℕ) → e < n → getD m′ (2 * size + up + e) 0 ≡ code (o .d e)
   pub rest : Rest size up n m m′
 
 record Lifted (size at up n e : ℕ) (m m′ : List ℕ) (s : List Step) (v d pc pd : ℕ → Ref) : Type 0 where
@@ -103,12 +103,12 @@ module _ (size at up n : ℕ) (above : up + n ≤ at) (fits : at + n ≤ size) (
   push-from : (r i : ℕ) → r + i ≡ n → (z : St) (s : List Step) (pc pd : ℕ → Ref) → z .steps ≡ length s → length s ≤ 4096 → Pushing size at up n (z .mem) s v d pc pd
       → Sim (across (liftF size at up) i r z .steps) (push formula v d r i s pc pd .st) (Pushed size up n (z .mem) (across (liftF size at up) i r z .mem) (push formula v d r i s pc pd))
   unfolding across push
-  push-from zero i sum z s pc pd counts most h = live counts most (record { held = h .held; near = h .upC; far = h .upD; rest = λ j l a b. refl })
+  push-from zero i sum z s pc pd counts most h = live counts most (record { held = h .held; c = h .upC; d = h .upD; rest = λ j l a b. refl })
   push-from (suc r) i sum z s pc pd counts most h =
       let x = joined true Step.or s (pc i) (v i) in
       let y = joined true Step.or (x .0) (pd i) (d i) in
       after (lift-sim i z s pc pd (omega arith) counts most h)
-      (λ a b p. mapped (λ o. record { held = o .held; near = o .near; far = o .far; rest = λ j l u w. o .rest j l u w ∙ p .rest j l u w })
+      (λ a b p. mapped (λ o. record { held = o .held; c = o .c; d = o .d; rest = λ j l u w. o .rest j l u w ∙ p .rest j l u w })
       (push-from r (suc i) (omega arith) (liftF size at up i z) (y .0) (upd pc i (x .1)) (upd pd i (y .1)) a b (p .going)))
       (λ a. across-over (liftF size at up) (λ i s h. lift-over size at up i s h) (suc i) r (liftF size at up i z) a)
       (push-grows v d r (suc i) (y .0) (upd pc i (x .1)) (upd pd i (y .1)))

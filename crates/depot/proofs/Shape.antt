@@ -14,7 +14,7 @@ use Rattle.meaning.specs.Bytes.{Bytes, labelIs, textIs}
 use Rattle.meaning.specs.Entry.{Entry, Points, Earlier}
 use Rattle.meaning.specs.Formula.{Ref, Step, added, constant, sorted, joined, negated, formula}
 use Rattle.meaning.specs.Fragment.{Rows}
-use Rattle.meaning.specs.Run.{Vectors, Tables, upd, literal, valueOf, visit, push, row, deliver, sweep, run}
+use Rattle.meaning.specs.Run.{Vectors, Delivered, Tables, upd, literal, valueOf, visit, push, row, deliver, sweep, run}
 use Rattle.meaning.proofs.Numbers.{upd-same, upd-other}
 use Rattle.reply.specs.WellFormed.{Result, Operand, Operands}
 use Rattle.depot.proofs.Grows.{joined-grows, value-grows, push-grows, row-grows}
@@ -98,8 +98,13 @@ module _ (n : ℕ) where
 
   pub record Whole (k : ℕ) (o : Vectors formula) : Type 0 where
     pub good : Good (o .st)
-    pub near : (e : ℕ) → e < k → Result n (length (o .st)) (o .near e)
-    pub far : (e : ℕ) → e < k → Result n (length (o .st)) (o .far e)
+    pub v : (e : ℕ) → e < k → Result n (length (o .st)) (o .v e)
+    pub d : (e : ℕ) → e < k → Result n (length (o .st)) (o .d e)
+
+  pub record Raised (k : ℕ) (o : Delivered formula) : Type 0 where
+    pub good : Good (o .st)
+    pub c : (e : ℕ) → e < k → Result n (length (o .st)) (o .c e)
+    pub d : (e : ℕ) → e < k → Result n (length (o .st)) (o .d e)
 
   -- ONE ROW, of k entries
   module _ (k : ℕ) (lab txt : Bytes → Bool) where
@@ -116,7 +121,7 @@ module _ (n : ℕ) where
 
     visit-fine : (i : ℕ) (l : List (Entry Bytes)) → length l + i ≡ k → Earlier i l → (c : ℕ → Ref) (s : List Step) (v d : ℕ → Ref) → Good s → All (length s) i v → All (length s) k c → All (length s) k d → Whole k (visit formula lab txt c l i s v d)
     unfolding visit
-    visit-fine i [] z w c s v d g hv hc hd = record { good = g; near = λ e l. hv .each e (omega arith); far = hd .each }
+    visit-fine i [] z w c s v d g hv hc hd = record { good = g; v = λ e l. hv .each e (omega arith); d = hd .each }
     visit-fine i (e ∷ l) z w c s v d g hv hc hd =
         let a = valueOf formula lab txt e s v c d in
         let b = joined true Step.or (a .0) (a .1) (d i) in
@@ -131,9 +136,9 @@ module _ (n : ℕ) where
         (all-upd (length (b .0)) k i d (b .1) (λ j l u. result-more (length s) (length (b .0)) (d j) all (hd .each j l)) (y .result))
 
   -- TO THE PARENT
-  push-fine : (k : ℕ) (v d : ℕ → Ref) (r i : ℕ) → r + i ≡ k → (s : List Step) (pc pd : ℕ → Ref) → Good s → All (length s) k v → All (length s) k d → All (length s) k pc → All (length s) k pd → Whole k (push formula v d r i s pc pd)
+  push-fine : (k : ℕ) (v d : ℕ → Ref) (r i : ℕ) → r + i ≡ k → (s : List Step) (pc pd : ℕ → Ref) → Good s → All (length s) k v → All (length s) k d → All (length s) k pc → All (length s) k pd → Raised k (push formula v d r i s pc pd)
   unfolding push
-  push-fine k v d zero i z s pc pd g hv hd hc he = record { good = g; near = hc .each; far = he .each }
+  push-fine k v d zero i z s pc pd g hv hd hc he = record { good = g; c = hc .each; d = he .each }
   push-fine k v d (suc r) i z s pc pd g hv hd hc he =
       let a = joined true Step.or s (pc i) (v i) in
       let b = joined true Step.or (a .0) (pd i) (d i) in
@@ -159,8 +164,8 @@ module _ (n : ℕ) where
     unfolding row
     row-fine k S h t = go (R .stands k) refl
       where
-        go : (b : Bool) → R .stands k ≡ b → Whole (length es) (cond b (record { st = S .st; near = vV k; far = vD k }) (visit formula (λ w. labelIs w (R .label k)) (λ w. textIs w (R .text k)) (S .c k) es 0 (S .st) (λ e. Ref.low) (S .d k)))
-        go true e = record { good = t .good; near = λ i l. exist k h e (length (S .st)) i l .0; far = λ i l. exist k h e (length (S .st)) i l .1 }
+        go : (b : Bool) → R .stands k ≡ b → Whole (length es) (cond b (record { st = S .st; v = vV k; d = vD k }) (visit formula (λ w. labelIs w (R .label k)) (λ w. textIs w (R .text k)) (S .c k) es 0 (S .st) (λ e. Ref.low) (S .d k)))
+        go true e = record { good = t .good; v = λ i l. exist k h e (length (S .st)) i l .0; d = λ i l. exist k h e (length (S .st)) i l .1 }
         go false e = visit-fine (length es) (λ w. labelIs w (R .label k)) (λ w. textIs w (R .text k)) 0 es (add-zero (length es)) w (S .c k) (S .st) (λ e. Ref.low) (S .d k) (t .good) (record { each = λ i l. tt }) (t .c k) (t .d k)
 
     deliver-fine : (k : ℕ) (S : Tables formula) → k ≤ R .last → Tabled S → Tabled (deliver formula R es vV vD k S)
@@ -173,8 +178,8 @@ module _ (n : ℕ) where
         a : Vectors formula
         a = row formula R es vV vD k S
 
-        b : Vectors formula
-        b = push formula (a .near) (a .far) (length es) 0 (a .st) (S .c p) (S .d p)
+        b : Delivered formula
+        b = push formula (a .v) (a .d) (length es) 0 (a .st) (S .c p) (S .d p)
 
         x : Whole (length es) a
         x = row-fine k S h t
@@ -183,21 +188,21 @@ module _ (n : ℕ) where
         ga = row-grows R es vV vD k S
 
         gb : length (a .st) ≤ length (b .st)
-        gb = push-grows (a .near) (a .far) (length es) 0 (a .st) (S .c p) (S .d p)
+        gb = push-grows (a .v) (a .d) (length es) 0 (a .st) (S .c p) (S .d p)
 
-        o : Whole (length es) b
-        o = push-fine (length es) (a .near) (a .far) (length es) 0 (add-zero (length es)) (a .st) (S .c p) (S .d p) (x .good) (record { each = x .near }) (record { each = x .far }) (all-more (length (S .st)) (length (a .st)) (length es) (S .c p) ga (t .c p)) (all-more (length (S .st)) (length (a .st)) (length es) (S .d p) ga (t .d p))
+        o : Raised (length es) b
+        o = push-fine (length es) (a .v) (a .d) (length es) 0 (add-zero (length es)) (a .st) (S .c p) (S .d p) (x .good) (record { each = x .v }) (record { each = x .d }) (all-more (length (S .st)) (length (a .st)) (length es) (S .c p) ga (t .c p)) (all-more (length (S .st)) (length (a .st)) (length es) (S .d p) ga (t .d p))
 
         kept : (f : ℕ → Ref) → All (length (S .st)) (length es) f → All (length (b .st)) (length es) f
         kept f i = all-more (length (S .st)) (length (b .st)) (length es) f (omega (arith, ga, gb)) i
 
-        one : (r : ℕ) → Dec (r ≡ p) → All (length (b .st)) (length es) (upd (S .c) p (b .near) r)
-        one r (yes z) = subst (All (length (b .st)) (length es)) (sym (ap (upd (S .c) p (b .near)) z ∙ upd-same (S .c) p (b .near))) (record { each = o .near })
-        one r (no z) = subst (All (length (b .st)) (length es)) (sym (upd-other (S .c) p (b .near) r z)) (kept (S .c r) (t .c r))
+        one : (r : ℕ) → Dec (r ≡ p) → All (length (b .st)) (length es) (upd (S .c) p (b .c) r)
+        one r (yes z) = subst (All (length (b .st)) (length es)) (sym (ap (upd (S .c) p (b .c)) z ∙ upd-same (S .c) p (b .c))) (record { each = o .c })
+        one r (no z) = subst (All (length (b .st)) (length es)) (sym (upd-other (S .c) p (b .c) r z)) (kept (S .c r) (t .c r))
 
-        two : (r : ℕ) → Dec (r ≡ p) → All (length (b .st)) (length es) (upd (S .d) p (b .far) r)
-        two r (yes z) = subst (All (length (b .st)) (length es)) (sym (ap (upd (S .d) p (b .far)) z ∙ upd-same (S .d) p (b .far))) (record { each = o .far })
-        two r (no z) = subst (All (length (b .st)) (length es)) (sym (upd-other (S .d) p (b .far) r z)) (kept (S .d r) (t .d r))
+        two : (r : ℕ) → Dec (r ≡ p) → All (length (b .st)) (length es) (upd (S .d) p (b .d) r)
+        two r (yes z) = subst (All (length (b .st)) (length es)) (sym (ap (upd (S .d) p (b .d)) z ∙ upd-same (S .d) p (b .d))) (record { each = o .d })
+        two r (no z) = subst (All (length (b .st)) (length es)) (sym (upd-other (S .d) p (b .d) r z)) (kept (S .d r) (t .d r))
 
     sweep-fine : (k : ℕ) (S : Tables formula) → k ≤ R .last → Tabled S → Tabled (sweep formula R es vV vD k S)
     unfolding sweep

@@ -14,7 +14,7 @@ use Rattle.meaning.specs.Bound.{count}
 use Rattle.meaning.specs.Entry.{Entry}
 use Rattle.meaning.specs.Formula.{Ref, formula}
 use Rattle.meaning.specs.Fragment.{Fragment, Rows, Sound, rowCount, rowsOf}
-use Rattle.meaning.specs.Run.{Vectors, Tables, upd, visit, push, row, deliver, sweep, run}
+use Rattle.meaning.specs.Run.{Vectors, Delivered, Tables, upd, visit, push, row, deliver, sweep, run}
 use Rattle.meaning.specs.Reply.{standIns, varV, varD, laidRun}
 use Rattle.meaning.proofs.Numbers.{upd-same, upd-other}
 use Rattle.question.specs.declared.List as L
@@ -70,7 +70,7 @@ module _ (l : L.List) (t : Bytes) (F : Fragment) (number : ℕ) (sound : Sound n
       fits = block n inside
 
       o : Bool → Vectors formula
-      o b = cond b (record { st = S .st; near = varV R es k; far = varD R es k }) (visit formula (λ w. labelIs w (R .label k)) (λ w. textIs w (R .text k)) (S .c k) es 0 (S .st) (λ e. Ref.low) (S .d k))
+      o b = cond b (record { st = S .st; v = varV R es k; d = varD R es k }) (visit formula (λ w. labelIs w (R .label k)) (λ w. textIs w (R .text k)) (S .c k) es 0 (S .st) (λ e. Ref.low) (S .d k))
 
       y : Bool → St
       y b = cond b (st (Flat.standF size (k * n) n (place * (2 * n)) (z .mem)) (z .steps)) (Flat.visitF l t F size (k * n) k z)
@@ -87,7 +87,7 @@ module _ (l : L.List) (t : Bytes) (F : Fragment) (number : ℕ) (sound : Sound n
       go : (b : Bool) → Sim (y b .steps) (o b .st) (Visited size (k * n) n (z .mem) (y b .mem) (o b))
       go true =
           let a = stand-held size (k * n) n (place * (2 * n)) fits (S .st) n 0 (omega arith) (z .mem) (h .held) (λ e w. absurd (omega arith)) (λ e w. absurd (omega arith)) in
-          Held.live counts most (record { held = a .held; near = λ e w. a .near e w ∙ ap (λ x. 8192 + x) (first e); far = λ e w. a .far e w ∙ ap (λ x. 8192 + x) (second e); same = a .same })
+          Held.live counts most (record { held = a .held; v = λ e w. a .v e w ∙ ap (λ x. 8192 + x) (first e); d = λ e w. a .d e w ∙ ap (λ x. 8192 + x) (second e); same = a .same })
       go false = visit-sim t F k size (k * n) n fits l keeps refl (S .c k) n 0 (omega arith) z (S .st) (λ e. Ref.low) (S .d k) counts most
           (record { held = h .held; here = λ e w. absurd (omega arith); child = λ e w. h .child k e (omega arith) w; lower = λ e w. h .lower k e (omega arith) w })
 
@@ -110,8 +110,8 @@ module _ (l : L.List) (t : Bytes) (F : Fragment) (number : ℕ) (sound : Sound n
         later u = omega arith
 
     -- the tables after the parent's C and D are put
-    put-tables : (m m₁ m₂ : List ℕ) (S : Tables formula) (w o : Vectors formula) → TabHeld size n (suc k) m S → Visited size (k * n) n m m₁ w → Pushed size (p * n) n m₁ m₂ o
-        → TabHeld size n k m₂ (record { st = o .st; c = upd (S .c) p (o .near); d = upd (S .d) p (o .far) })
+    put-tables : (m m₁ m₂ : List ℕ) (S : Tables formula) (w : Vectors formula) (o : Delivered formula) → TabHeld size n (suc k) m S → Visited size (k * n) n m m₁ w → Pushed size (p * n) n m₁ m₂ o
+        → TabHeld size n k m₂ (record { st = o .st; c = upd (S .c) p (o .c); d = upd (S .d) p (o .d) })
     put-tables m m₁ m₂ S w o h a b = record { held = b .held; child = λ r e u x. one r e u x (ℕ-discrete r p); lower = λ r e u x. two r e u x (ℕ-discrete r p) }
       where
         within-rows : {r e : ℕ} → r < k → e < n → r * n + e < k * n
@@ -120,21 +120,21 @@ module _ (l : L.List) (t : Bytes) (F : Fragment) (number : ℕ) (sound : Sound n
         last : k * n + n ≤ size
         last = block n inside
 
-        one : (r e : ℕ) → r < k → e < n → Dec (r ≡ p) → getD m₂ (size + r * n + e) 0 ≡ code (upd (S .c) p (o .near) r e)
-        one r e u x (yes z) = ap (λ q. getD m₂ (size + q * n + e) 0) z ∙ b .near e x ∙ ap (λ f. code (f e)) (sym (ap (upd (S .c) p (o .near)) z ∙ upd-same (S .c) p (o .near)))
+        one : (r e : ℕ) → r < k → e < n → Dec (r ≡ p) → getD m₂ (size + r * n + e) 0 ≡ code (upd (S .c) p (o .c) r e)
+        one r e u x (yes z) = ap (λ q. getD m₂ (size + q * n + e) 0) z ∙ b .c e x ∙ ap (λ f. code (f e)) (sym (ap (upd (S .c) p (o .c)) z ∙ upd-same (S .c) p (o .c)))
         one r e u x (no z) = b .rest (size + r * n + e) (omega (arith, last, within-rows u x)) (λ e′ y q. apart size r e e′ z x y q) (λ e′ y q. omega (arith, last, within-rows u x))
-            ∙ a .same (size + r * n + e) (omega arith) (omega (arith, last, within-rows u x)) ∙ h .child r e (omega arith) x ∙ ap (λ f. code (f e)) (sym (upd-other (S .c) p (o .near) r z))
+            ∙ a .same (size + r * n + e) (omega arith) (omega (arith, last, within-rows u x)) ∙ h .child r e (omega arith) x ∙ ap (λ f. code (f e)) (sym (upd-other (S .c) p (o .c) r z))
 
-        two : (r e : ℕ) → r < k → e < n → Dec (r ≡ p) → getD m₂ (2 * size + r * n + e) 0 ≡ code (upd (S .d) p (o .far) r e)
-        two r e u x (yes z) = ap (λ q. getD m₂ (2 * size + q * n + e) 0) z ∙ b .far e x ∙ ap (λ f. code (f e)) (sym (ap (upd (S .d) p (o .far)) z ∙ upd-same (S .d) p (o .far)))
+        two : (r e : ℕ) → r < k → e < n → Dec (r ≡ p) → getD m₂ (2 * size + r * n + e) 0 ≡ code (upd (S .d) p (o .d) r e)
+        two r e u x (yes z) = ap (λ q. getD m₂ (2 * size + q * n + e) 0) z ∙ b .d e x ∙ ap (λ f. code (f e)) (sym (ap (upd (S .d) p (o .d)) z ∙ upd-same (S .d) p (o .d)))
         two r e u x (no z) = b .rest (2 * size + r * n + e) (omega (arith, last, within-rows u x)) (λ e′ y q. omega (arith, last, above, within-rows u x)) (λ e′ y q. apart (2 * size) r e e′ z x y q)
-            ∙ a .same (2 * size + r * n + e) (omega arith) (omega (arith, last, within-rows u x)) ∙ h .lower r e (omega arith) x ∙ ap (λ f. code (f e)) (sym (upd-other (S .d) p (o .far) r z))
+            ∙ a .same (2 * size + r * n + e) (omega arith) (omega (arith, last, within-rows u x)) ∙ h .lower r e (omega arith) x ∙ ap (λ f. code (f e)) (sym (upd-other (S .d) p (o .d) r z))
 
   -- row k + 1, and its part in its parent
   deliver-sim : (k place : ℕ) (z : St) (S : Tables formula) → suc k < rowCount F → place ≡ length (standIns R (suc k)) → z .steps ≡ length (S .st) → length (S .st) ≤ 4096 → TabHeld size n (suc (suc k)) (z .mem) S
       → Sim (deliverF l t F size (suc k) place z .steps) (deliver formula R es v d (suc k) S .st) (TabHeld size n (suc k) (deliverF l t F size (suc k) place z .mem) (deliver formula R es v d (suc k) S))
   unfolding deliverF deliver
-  deliver-sim k place z S inside at counts most h = simp (ne-eqb (suc k) 0 (λ e. omega arith)) (after (row-sim (suc k) place z S inside at counts most h) pushes (λ a. across-over (Flat.liftF size (suc k * n) (up * n)) (λ i s h. lift-over size (suc k * n) (up * n) i s h) 0 n y a) (push-grows (w .near) (w .far) (length es) 0 (w .st) (S .c p) (S .d p)))
+  deliver-sim k place z S inside at counts most h = simp (ne-eqb (suc k) 0 (λ e. omega arith)) (after (row-sim (suc k) place z S inside at counts most h) pushes (λ a. across-over (Flat.liftF size (suc k * n) (up * n)) (λ i s h. lift-over size (suc k * n) (up * n) i s h) 0 n y a) (push-grows (w .v) (w .d) (length es) 0 (w .st) (S .c p) (S .d p)))
     where
       w : Vectors formula
       w = row formula R es v d (suc k) S
@@ -154,14 +154,14 @@ module _ (l : L.List) (t : Bytes) (F : Fragment) (number : ℕ) (sound : Sound n
       early : p < suc k
       early = subst (λ q. q < suc k) up-is (sound-parent number F sound (suc k) inside (λ e. omega arith))
 
-      o : Vectors formula
-      o = push formula (w .near) (w .far) n 0 (w .st) (S .c p) (S .d p)
+      o : Delivered formula
+      o = push formula (w .v) (w .d) n 0 (w .st) (S .c p) (S .d p)
 
       pushes : y .steps ≡ length (w .st) → length (w .st) ≤ 4096 → Visited size (suc k * n) n (z .mem) (y .mem) w
-          → Sim (pushF size (suc k * n) (up * n) n y .steps) (push formula (w .near) (w .far) (length es) 0 (w .st) (S .c p) (S .d p) .st)
-          (TabHeld size n (suc k) (pushF size (suc k * n) (up * n) n y .mem) (record { st = push formula (w .near) (w .far) (length es) 0 (w .st) (S .c p) (S .d p) .st; c = upd (S .c) p (push formula (w .near) (w .far) (length es) 0 (w .st) (S .c p) (S .d p) .near); d = upd (S .d) p (push formula (w .near) (w .far) (length es) 0 (w .st) (S .c p) (S .d p) .far) }))
+          → Sim (pushF size (suc k * n) (up * n) n y .steps) (push formula (w .v) (w .d) (length es) 0 (w .st) (S .c p) (S .d p) .st)
+          (TabHeld size n (suc k) (pushF size (suc k * n) (up * n) n y .mem) (record { st = push formula (w .v) (w .d) (length es) 0 (w .st) (S .c p) (S .d p) .st; c = upd (S .c) p (push formula (w .v) (w .d) (length es) 0 (w .st) (S .c p) (S .d p) .c); d = upd (S .d) p (push formula (w .v) (w .d) (length es) 0 (w .st) (S .c p) (S .d p) .d) }))
       pushes a b x = rw (up-is, listed-length l t) (mapped (put-tables (suc k) p inside early (z .mem) (y .mem) _ S w o h x)
-          (push-sim size (suc k * n) (p * n) n (above (suc k) p inside early) (block n inside) (w .near) (w .far) y (w .st) (S .c p) (S .d p) a b (x .held) (x .near) (x .far)
+          (push-sim size (suc k * n) (p * n) n (above (suc k) p inside early) (block n inside) (w .v) (w .d) y (w .st) (S .c p) (S .d p) a b (x .held) (x .v) (x .d)
           (λ e u. x .same (size + p * n + e) (omega arith) (omega (arith, block n inside, above (suc k) p inside early)) ∙ h .child p e (omega (arith, early)) u)
           (λ e u. x .same (2 * size + p * n + e) (omega arith) (omega (arith, above (suc k) p inside early)) ∙ h .lower p e (omega (arith, early)) u)))
 
@@ -178,7 +178,7 @@ module _ (l : L.List) (t : Bytes) (F : Fragment) (number : ℕ) (sound : Sound n
       o = row formula R es v d 0 S
 
       laid : {m : List ℕ} → Visited size (0 * n) n (z .mem) m o → Laid size n o m
-      laid {m} x = record { steps = x .held .steps; near = λ e u. ap (λ i. getD m i 0) (first e) ∙ x .near e u; far = λ e u. ap (λ i. getD m i 0) (second e) ∙ x .far e u }
+      laid {m} x = record { steps = x .held .steps; v = λ e u. ap (λ i. getD m i 0) (first e) ∙ x .v e u; d = λ e u. ap (λ i. getD m i 0) (second e) ∙ x .d e u }
         where
           first : (e : ℕ) → e ≡ 0 * n + e
           first e = omega arith

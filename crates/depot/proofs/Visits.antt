@@ -54,8 +54,8 @@ pub record RowHeld (size at n i : ℕ) (m : List ℕ) (s : List Step) (v c d : �
 -- what is left of a row: V and D, and C of every row and D of the rows before as they were
 pub record Visited (size at n : ℕ) (m m′ : List ℕ) (o : Vectors formula) : Type 0 where
   pub held : Held size m′ (o .st)
-  pub near : (e : ℕ) → e < n → getD m′ (at + e) 0 ≡ code (o .near e)
-  pub far : (e : ℕ) → e < n → getD m′ (2 * size + at + e) 0 ≡ code (o .far e)
+  pub v : (e : ℕ) → e < n → getD m′ (at + e) 0 ≡ code (o .v e)
+  pub d : (e : ℕ) → e < n → getD m′ (2 * size + at + e) 0 ≡ code (o .d e)
   pub same : (j : ℕ) → size ≤ j → j < 2 * size + at → getD m′ j 0 ≡ getD m j 0
 
 record Entered (size at n e : ℕ) (m m′ : List ℕ) (s : List Step) (v c d : ℕ → Ref) : Type 0 where
@@ -143,13 +143,13 @@ module _ (t : Bytes) (F : Fragment) (k : ℕ) (size at n : ℕ) (fits : at + n �
     pub visit-sim : (r i : ℕ) → r + i ≡ n → (z : St) (s : List Step) (v d : ℕ → Ref) → z .steps ≡ length s → length s ≤ 4096 → RowHeld size at n i (z .mem) s v c d
         → Sim (across (entryF l t F size at k) i r z .steps) (visit formula lab txt c (tabulated r i entryAt) i s v d .st) (Visited size at n (z .mem) (across (entryF l t F size at k) i r z .mem) (visit formula lab txt c (tabulated r i entryAt) i s v d))
     unfolding across tabulated visit entryF
-    visit-sim zero i sum z s v d counts most h = live counts most (record { held = h .held; near = λ e w. h .here e (omega arith); far = h .lower; same = λ j a b. refl })
+    visit-sim zero i sum z s v d counts most h = live counts most (record { held = h .held; v = λ e w. h .here e (omega arith); d = h .lower; same = λ j a b. refl })
     visit-sim (suc r) i sum z s v d counts most h =
         let q : Kind = kindOf (getD (l .kinds) i 0) in
         let x = valueOf formula lab txt (entryAt i) s v c d in
         let y = joined true Step.or (x .0) (x .1) (d i) in
         after (enter-sim i (z .mem) (z .steps) s v c d (omega arith) counts most h q (getD (l .left) i 0) (getD (l .right) i 0) (rule-reads t i q (getD (l .left) i 0) (getD (l .right) i 0) (keeps .each i (omega arith))))
-        (λ a b E. mapped (λ o. record { held = o .held; near = o .near; far = o .far; same = λ j u w. o .same j u w ∙ E .same j u w })
+        (λ a b E. mapped (λ o. record { held = o .held; v = o .v; d = o .d; same = λ j u w. o .same j u w ∙ E .same j u w })
         (visit-sim r (suc i) (omega arith) (entryF l t F size at k i z) (y .0) (upd v i (x .1)) (upd d i (y .1)) a b (E .row)))
         (λ a. across-over (entryF l t F size at k) (λ i s h. entry-over l t F size at k i s h) (suc i) r (entryF l t F size at k i z) a)
         (visit-grows lab txt c (tabulated r (suc i) entryAt) (suc i) (y .0) (upd v i (x .1)) (upd d i (y .1)))
@@ -157,17 +157,17 @@ module _ (t : Bytes) (F : Fragment) (k : ℕ) (size at n : ℕ) (fits : at + n �
 -- A STAND-IN'S variables
 module _ (size at n first : ℕ) (fits : at + n ≤ size) (s : List Step) where
   abbrev vars : Vectors formula
-  vars = record { st = s; near = λ e. Ref.var (first + e); far = λ e. Ref.var (first + (n + e)) }
+  vars = record { st = s; v = λ e. Ref.var (first + e); d = λ e. Ref.var (first + (n + e)) }
 
   pub stand-held : (r i : ℕ) → r + i ≡ n → (m : List ℕ) → Held size m s
-      → ((e : ℕ) → e < i → getD m (at + e) 0 ≡ code (vars .near e)) → ((e : ℕ) → e < i → getD m (2 * size + at + e) 0 ≡ code (vars .far e))
+      → ((e : ℕ) → e < i → getD m (at + e) 0 ≡ code (vars .v e)) → ((e : ℕ) → e < i → getD m (2 * size + at + e) 0 ≡ code (vars .d e))
       → Visited size at n m (across (varF size at n first) i r m) vars
   unfolding across
-  stand-held zero i sum m h a b = record { held = h; near = λ e w. a e (omega arith); far = λ e w. b e (omega arith); same = λ j u w. refl }
+  stand-held zero i sum m h a b = record { held = h; v = λ e w. a e (omega arith); d = λ e w. b e (omega arith); same = λ j u w. refl }
   stand-held (suc r) i sum m h a b =
       let o = stand-held r (suc i) (omega arith) m′ h′
-      (λ e w. near e w (ℕ-discrete e i)) (λ e w. far e w (ℕ-discrete e i)) in
-      record { held = o .held; near = o .near; far = o .far; same = λ j u w. o .same j u w ∙ elsewhere m p q x y apart room j (λ z. omega arith) (λ z. omega arith) }
+      (λ e w. here e w (ℕ-discrete e i)) (λ e w. lower e w (ℕ-discrete e i)) in
+      record { held = o .held; v = o .v; d = o .d; same = λ j u w. o .same j u w ∙ elsewhere m p q x y apart room j (λ z. omega arith) (λ z. omega arith) }
     where
       p : ℕ
       p = at + i
@@ -193,10 +193,10 @@ module _ (size at n first : ℕ) (fits : at + n ≤ size) (s : List Step) where
       h′ : Held size m′ s
       h′ = held-set size (set m p x) s q y (omega arith) (held-set size m s p x (omega arith) h)
 
-      near : (e : ℕ) → e < suc i → Dec (e ≡ i) → getD m′ (at + e) 0 ≡ 8192 + (first + e)
-      near e w (yes z) = ap (λ k. getD m′ (at + k) 0) z ∙ at-first m p q x y apart room ∙ ap (λ k. 8192 + (first + k)) (sym z)
-      near e w (no z) = elsewhere m p q x y apart room (at + e) (λ u. z (omega arith)) (λ u. omega arith) ∙ a e (omega arith)
+      here : (e : ℕ) → e < suc i → Dec (e ≡ i) → getD m′ (at + e) 0 ≡ 8192 + (first + e)
+      here e w (yes z) = ap (λ k. getD m′ (at + k) 0) z ∙ at-first m p q x y apart room ∙ ap (λ k. 8192 + (first + k)) (sym z)
+      here e w (no z) = elsewhere m p q x y apart room (at + e) (λ u. z (omega arith)) (λ u. omega arith) ∙ a e (omega arith)
 
-      far : (e : ℕ) → e < suc i → Dec (e ≡ i) → getD m′ (2 * size + at + e) 0 ≡ 8192 + (first + (n + e))
-      far e w (yes z) = ap (λ k. getD m′ (2 * size + at + k) 0) z ∙ at-second m p q x y apart room ∙ ap (λ k. 8192 + (first + (n + k))) (sym z)
-      far e w (no z) = elsewhere m p q x y apart room (2 * size + at + e) (λ u. omega arith) (λ u. z (omega arith)) ∙ b e (omega arith)
+      lower : (e : ℕ) → e < suc i → Dec (e ≡ i) → getD m′ (2 * size + at + e) 0 ≡ 8192 + (first + (n + e))
+      lower e w (yes z) = ap (λ k. getD m′ (2 * size + at + k) 0) z ∙ at-second m p q x y apart room ∙ ap (λ k. 8192 + (first + (n + k))) (sym z)
+      lower e w (no z) = elsewhere m p q x y apart room (2 * size + at + e) (λ u. omega arith) (λ u. z (omega arith)) ∙ b e (omega arith)

@@ -23,8 +23,8 @@ pub record Ready (l : L.List) (t : Bytes) (F : Fragment) (m : List ℕ) : Type 0
 -- the numbers of the steps, and of V and D of row 0, for n entries and `size` = rows × entries
 pub record Laid (size n : ℕ) (o : Vectors Formulas.formula) (m : List ℕ) : Type 0 where
   pub steps : take (3 * length (o .st)) (drop (4 * size) m) ≡ numbers (o .st)
-  pub near : (e : ℕ) → e < n → getD m e 0 ≡ code (o .near e)
-  pub far : (e : ℕ) → e < n → getD m (2 * size + e) 0 ≡ code (o .far e)
+  pub v : (e : ℕ) → e < n → getD m e 0 ≡ code (o .v e)
+  pub d : (e : ℕ) → e < n → getD m (2 * size + e) 0 ≡ code (o .d e)
 
 -- by the count of steps, and whether there are over 4,096
 pub data Made (size n : ℕ) (o : Vectors Formulas.formula) (m : List ℕ) : ℕ → Bool → Type 0 where

@@ -15,7 +15,7 @@ use Rattle.meaning.specs.Bytes.{Bytes, labelIs, textIs}
 use Rattle.meaning.specs.Entry.{Entry, Points, Earlier}
 use Rattle.meaning.specs.Formula.{Ref, Step, added, constant, sorted, joined, negated, formula}
 use Rattle.meaning.specs.Fragment.{Rows, rowsOf, alone}
-use Rattle.meaning.specs.Run.{upd, literal, Vectors, Tables, valueOf, visit, push, row, deliver, sweep, run}
+use Rattle.meaning.specs.Run.{upd, literal, Vectors, Delivered, Tables, valueOf, visit, push, row, deliver, sweep, run}
 use Rattle.meaning.specs.Reply.{standIns, varV, varD, laidDown}
 use Rattle.meaning.specs.Bound.{Open, count, stepBound}
 use Rattle.meaning.specs.Promise.{StepBound}
@@ -108,8 +108,8 @@ cold-snoc i f r h c = cold-upd (suc i) i f r (λ e b p. h .each e (omega arith))
 
 record ColdOut (n : ℕ) (s : List Step) (o : Vectors formula) : Type 0 where
   size : length (o .st) ≤ length s
-  near : Cold n (o .near)
-  far : Cold n (o .far)
+  v : Cold n (o .v)
+  d : Cold n (o .d)
 
 -- ONE ROW
 module _ (lab txt : Bytes → Bool) where
@@ -146,7 +146,7 @@ module _ (lab txt : Bytes → Bool) where
 
   visit-cold : (n i : ℕ) (l : List (Entry Bytes)) → length l + i ≡ n → Earlier i l → (c : ℕ → Ref) (s : List Step) (v d : ℕ → Ref) → Cold n c → Cold i v → Cold n d → ColdOut n s (visit formula lab txt c l i s v d)
   unfolding visit
-  visit-cold n i [] k w c s v d hc hv hd = record { size = le-refl _; near = record { each = λ e b. hv .each e (omega arith) }; far = hd }
+  visit-cold n i [] k w c s v d hc hv hd = record { size = le-refl _; v = record { each = λ e b. hv .each e (omega arith) }; d = hd }
   visit-cold n i (e ∷ l) k w c s v d hc hv hd =
       let a = valueOf formula lab txt e s v c d in
       let b = joined true Step.or (a .0) (a .1) (d i) in
@@ -154,7 +154,7 @@ module _ (lab txt : Bytes → Bool) where
       let di = hd .each i (omega arith) in
       let y = no-more true Step.or (a .0) (a .1) (d i) di in
       let r = visit-cold n (suc i) l (omega arith) (w .1) c (b .0) (upd v i (a .1)) (upd d i (b .1)) hc (cold-snoc i v (a .1) hv (x .1)) (cold-kept n i d (b .1) hd (joined-const true Step.or (a .0) (a .1) (d i) (x .1) di)) in
-      record { size = omega (arith, r .size, x .0, y); near = r .near; far = r .far }
+      record { size = omega (arith, r .size, x .0, y); v = r .v; d = r .d }
 
 -- TO THE PARENT
 push-size : (v d : ℕ → Ref) (m i : ℕ) (s : List Step) (pc pd : ℕ → Ref) → length (push formula v d m i s pc pd .st) ≤ length s + 2 * m
@@ -174,7 +174,7 @@ push-free v d n (suc m) i k s pc pd hv hd =
     let b = joined true Step.or (a .0) (pd i) (d i) in
     omega (arith, push-free v d n m (suc i) (omega arith) (b .0) (upd pc i (a .1)) (upd pd i (b .1)) hv hd, no-more true Step.or (a .0) (pd i) (d i) (hd .each i (omega arith)), no-more true Step.or s (pc i) (v i) (hv .each i (omega arith)))
 
-push-cold : (v d : ℕ → Ref) (n m i : ℕ) → m + i ≡ n → (s : List Step) (pc pd : ℕ → Ref) → Cold n v → Cold n d → Cold n pc → Cold n pd → Cold n (push formula v d m i s pc pd .near) × Cold n (push formula v d m i s pc pd .far)
+push-cold : (v d : ℕ → Ref) (n m i : ℕ) → m + i ≡ n → (s : List Step) (pc pd : ℕ → Ref) → Cold n v → Cold n d → Cold n pc → Cold n pd → Cold n (push formula v d m i s pc pd .c) × Cold n (push formula v d m i s pc pd .d)
 unfolding push
 push-cold v d n zero i k s pc pd hv hd hc he = (hc, he)
 push-cold v d n (suc m) i k s pc pd hv hd hc he =
@@ -246,7 +246,7 @@ module _ (R : Rows) (up : Upright R) (es : List (Entry Bytes)) (w : Earlier 0 es
   -- what visiting row k costs: 2 for each entry if it is open, nothing if nothing is warm
   record Cost (k : ℕ) (s : List Step) (o : Vectors formula) : Type 0 where
     size : length (o .st) ≤ length s + n * (2 * cond (isOpen k) 1 0)
-    cold : warm k ≡ false → (length (o .st) ≤ length s) × Cold n (o .near) × Cold n (o .far)
+    cold : warm k ≡ false → (length (o .st) ≤ length s) × Cold n (o .v) × Cold n (o .d)
 
   row-cost : (m k : ℕ) (S : Tables formula) → Cheap m k S → Cost k (S .st) (row formula R es vV vD k S)
   unfolding row warmKid
@@ -273,11 +273,11 @@ module _ (R : Rows) (up : Upright R) (es : List (Entry Bytes)) (w : Earlier 0 es
       loud true e f = omega (arith, visit-size lab txt (S .c k) es 0 (S .st) (λ e. Ref.low) (S .d k))
       loud false e f = omega (arith, quiet e f .size)
 
-      go : (b : Bool) → R .stands k ≡ b → Cost k (S .st) (cond b (record { st = S .st; near = vV k; far = vD k }) out)
+      go : (b : Bool) → R .stands k ≡ b → Cost k (S .st) (cond b (record { st = S .st; v = vV k; d = vD k }) out)
       go true e = record { size = omega arith; cold = λ f. absurd (true≢false (sym e ∙ cold-row k f .0)) }
       go false e = record {
         size = subst (λ b. length (out .st) ≤ length (S .st) + n * (2 * cond b 1 0)) (sym (open-is k inside ∙ ap (λ b. not b && warm k) e)) (loud (warm k) e refl);
-        cold = λ f. let q = quiet e f in (q .size, q .near, q .far);
+        cold = λ f. let q = quiet e f in (q .size, q .v, q .d);
       }
 
   deliver-cost : (m k : ℕ) (S : Tables formula) → Cheap m (suc k) S → Cheap (suc m) k (deliver formula R es vV vD (suc k) S)
@@ -299,35 +299,35 @@ module _ (R : Rows) (up : Upright R) (es : List (Entry Bytes)) (w : Earlier 0 es
       c : Cost (suc k) (S .st) o
       c = row-cost m (suc k) S I
 
-      p : Vectors formula
-      p = push formula (o .near) (o .far) n 0 (o .st) (S .c par) (S .d par)
+      p : Delivered formula
+      p = push formula (o .v) (o .d) n 0 (o .st) (S .c par) (S .d par)
 
       all : length (p .st) ≤ length (o .st) + 2 * n
-      all = push-size (o .near) (o .far) n 0 (o .st) (S .c par) (S .d par)
+      all = push-size (o .v) (o .d) n 0 (o .st) (S .c par) (S .d par)
 
       free : warm (suc k) ≡ false → length (p .st) ≤ length (S .st)
-      free e = omega (arith, c .cold e .0, push-free (o .near) (o .far) n n 0 (add-zero n) (o .st) (S .c par) (S .d par) (c .cold e .1) (c .cold e .2))
+      free e = omega (arith, c .cold e .0, push-free (o .v) (o .d) n n 0 (add-zero n) (o .st) (S .c par) (S .d par) (c .cold e .1) (c .cold e .2))
 
       total : (a : Bool) → R .stands (suc k) ≡ a → (b : Bool) → warm (suc k) ≡ b → length (p .st) ≤ n * (sum m (suc (suc k)) weight + (4 * cond (isOpen (suc k)) 1 0 + 2 * cond (R .stands (suc k)) 1 0))
       total true x b y = rw (x, open-is (suc k) inside, x) (omega (arith, I .size, subst (λ z. length (o .st) ≤ length (S .st) + n * (2 * cond z 1 0)) (open-is (suc k) inside ∙ ap (λ z. not z && warm (suc k)) x) (c .size), all))
       total false x true y = rw (x, open-is (suc k) inside, x, y) (omega (arith, I .size, subst (λ z. length (o .st) ≤ length (S .st) + n * (2 * cond z 1 0)) (open-is (suc k) inside ∙ ap (λ z. not z && warm (suc k)) x ∙ y) (c .size), all))
       total false x false y = omega (arith, I .size, free y)
 
-      cold′ : (r : ℕ) → r ≤ k → warmKid (suc m) (suc k) r ≡ false → Cold n (upd (S .c) par (p .near) r) × Cold n (upd (S .d) par (p .far) r)
+      cold′ : (r : ℕ) → r ≤ k → warmKid (suc m) (suc k) r ≡ false → Cold n (upd (S .c) par (p .c) r) × Cold n (upd (S .d) par (p .d) r)
       cold′ r x e = by (ℕ-discrete r par)
         where
           both : (warmKid m (suc (suc k)) r ≡ false) × ((eqb par r && warm (suc k)) ≡ false)
           both = or-none (warmKid m (suc (suc k)) r) (eqb par r && warm (suc k)) e
 
-          by : Dec (r ≡ par) → Cold n (upd (S .c) par (p .near) r) × Cold n (upd (S .d) par (p .far) r)
+          by : Dec (r ≡ par) → Cold n (upd (S .c) par (p .c) r) × Cold n (upd (S .d) par (p .d) r)
           by (yes z) =
               let y : warm (suc k) ≡ false = subst (λ b. (b && warm (suc k)) ≡ false) (subst (λ u. eqb par u ≡ true) (sym z) (eqb-true par)) (both .1) in
               let old = I .cold par early (subst (λ u. warmKid m (suc (suc k)) u ≡ false) z (both .0)) in
-              let new = push-cold (o .near) (o .far) n n 0 (add-zero n) (o .st) (S .c par) (S .d par) (c .cold y .1) (c .cold y .2) (old .0) (old .1) in
-              (subst (Cold n) (sym (ap (upd (S .c) par (p .near)) z ∙ upd-same (S .c) par (p .near))) (new .0), subst (Cold n) (sym (ap (upd (S .d) par (p .far)) z ∙ upd-same (S .d) par (p .far))) (new .1))
+              let new = push-cold (o .v) (o .d) n n 0 (add-zero n) (o .st) (S .c par) (S .d par) (c .cold y .1) (c .cold y .2) (old .0) (old .1) in
+              (subst (Cold n) (sym (ap (upd (S .c) par (p .c)) z ∙ upd-same (S .c) par (p .c))) (new .0), subst (Cold n) (sym (ap (upd (S .d) par (p .d)) z ∙ upd-same (S .d) par (p .d))) (new .1))
           by (no z) =
               let old = I .cold r (omega arith) (both .0) in
-              (subst (Cold n) (sym (upd-other (S .c) par (p .near) r z)) (old .0), subst (Cold n) (sym (upd-other (S .d) par (p .far) r z)) (old .1))
+              (subst (Cold n) (sym (upd-other (S .c) par (p .c) r z)) (old .0), subst (Cold n) (sym (upd-other (S .d) par (p .d) r z)) (old .1))
 
   sweep-cost : (k m : ℕ) (S : Tables formula) → Cheap m k S → Cheap (k + m) 0 (sweep formula R es vV vD k S)
   unfolding sweep

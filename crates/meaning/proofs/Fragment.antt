@@ -84,7 +84,7 @@ one-box number F s none es w e h = subst (λ b. Says (EntryHolds (alone R) es e 
     fin : Finite (alone R)
     fin = alone-finite R (sound-upright number F s)
 
-    is : run (constants bool) R es (λ k i. false) (λ k i. false) tt .near e ≡ mean fin es e 0
+    is : run (constants bool) R es (λ k i. false) (λ k i. false) tt .v e ≡ mean fin es e 0
     is = run-is (constants bool) constant-reading constant-laws fin R (λ k. k) (alone-placed R (sound-upright number F s)) es w (mean fin es) (mean-agrees fin es w) (λ k i. false) (λ k i. false) tt
         (λ k a b. absurd (true≢false (sym b ∙ none k (row-inside number F s k a)))) .here e (omega arith) h
 

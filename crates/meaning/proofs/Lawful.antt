@@ -99,11 +99,11 @@ module _ (G : Register) (c : Cut G) (es : List (Entry Bytes)) (w : Earlier 0 es)
           top-place : place G f 0 ≡ (f, 0)
           top-place = place-real G f 0 (upright G c f h .real)
 
-          v-is : val (getD (tabulated (length es) 0 (o .near)) e Ref.low) ≡ hereAt e (f, 0)
-          v-is = ap val (tabulated-at (length es) 0 e (o .near) Ref.low y ∙ ap (o .near) (add-zero e)) ∙ answers .here e (omega arith) y .is ∙ ap (hereAt e) top-place
+          v-is : val (getD (tabulated (length es) 0 (o .v)) e Ref.low) ≡ hereAt e (f, 0)
+          v-is = ap val (tabulated-at (length es) 0 e (o .v) Ref.low y ∙ ap (o .v) (add-zero e)) ∙ answers .here e (omega arith) y .is ∙ ap (hereAt e) top-place
 
-          d-is : val (getD (tabulated (length es) 0 (o .far)) e Ref.low) ≡ lowerAt e (f, 0)
-          d-is = ap val (tabulated-at (length es) 0 e (o .far) Ref.low y ∙ ap (o .far) (add-zero e)) ∙ answers .lower e (omega arith) y .is ∙ ap (lowerAt e) top-place
+          d-is : val (getD (tabulated (length es) 0 (o .d)) e Ref.low) ≡ lowerAt e (f, 0)
+          d-is = ap val (tabulated-at (length es) 0 e (o .d) Ref.low y ∙ ap (o .d) (add-zero e)) ∙ answers .lower e (omega arith) y .is ∙ ap (lowerAt e) top-place
 
     lawful : Lawful (HereIn G es) (LowerIn G es) (length es) (parts G) f (laidDown R es number f)
     unfolding laidDown

@@ -15,7 +15,7 @@ use Rattle.meaning.specs.Tree.{Tree}
 use Rattle.meaning.specs.Entry.{Entry, Points, Earlier}
 use Rattle.meaning.specs.Algebra.{Algebra}
 use Rattle.meaning.specs.Fragment.{Rows}
-use Rattle.meaning.specs.Run.{upd, literal, Vectors, Tables, valueOf, visit, push, row, deliver, sweep, run}
+use Rattle.meaning.specs.Run.{upd, literal, Vectors, Delivered, Tables, valueOf, visit, push, row, deliver, sweep, run}
 use Rattle.meaning.proofs.Says.{some}
 use Rattle.meaning.proofs.Tree.{Finite, deep, deep-step}
 use Rattle.meaning.proofs.Entry.{sem, Agrees}
@@ -51,8 +51,13 @@ module _ (A : Algebra) (M : Reading A) (L : Laws A M) where
   -- a row's two vectors have the values gn and gf, in a store grown from s
   pub record Gives (n : ℕ) (s : A .St) (o : Vectors A) (gn gf : ℕ → Bool) : Type 0 where
     pub later : M .Later s (o .st)
-    pub near : Span (o .st) (o .near) gn 0 n
-    pub far : Span (o .st) (o .far) gf 0 n
+    pub v : Span (o .st) (o .v) gn 0 n
+    pub d : Span (o .st) (o .d) gf 0 n
+
+  pub record Passes (n : ℕ) (s : A .St) (o : Delivered A) (gn gf : ℕ → Bool) : Type 0 where
+    pub later : M .Later s (o .st)
+    pub c : Span (o .st) (o .c) gn 0 n
+    pub d : Span (o .st) (o .d) gf 0 n
 
   -- ONE ROW: V has the entries' values here, D here or below
   module _ {t : Tree} (fin : Finite t) (ρ : ℕ → t .N → Bool) (u : t .N) (lab txt : Bytes → Bool) (lab-is : (w : Bytes) → lab w ≡ t .label? w u) (txt-is : (w : Bytes) → txt w ≡ t .text? w u) where
@@ -95,14 +100,14 @@ module _ (A : Algebra) (M : Reading A) (L : Laws A M) where
     visit-is : (n i : ℕ) (l : List (Entry Bytes)) → length l + i ≡ n → Earlier i l → Agrees fin ρ i l → (c : ℕ → A .Ref) (s : A .St) (v d : ℕ → A .Ref)
         → Span s c kidIs 0 n → Span s v hereIs 0 i → Span s d lowerIs 0 i → Span s d deeperIs i n → Gives n s (visit A lab txt c l i s v d) hereIs lowerIs
     unfolding visit
-    visit-is n i [] k w q c s v d hc hv hd ht = let e : i ≡ n = omega arith in record { later = L .same _; near = rw (← e) hv; far = rw (← e) hd }
+    visit-is n i [] k w q c s v d hc hv hd ht = let e : i ≡ n = omega arith in record { later = L .same _; v = rw (← e) hv; d = rw (← e) hd }
     visit-is n i (e ∷ l) k w q c s v d hc hv hd ht =
         let r = visit-is n (suc i) l (omega arith) (w .1) (q .1) c (b .0) (upd v i (a .1)) (upd d i (b .1))
         (span-keep c kidIs 0 n xs hc)
         (span-snoc (b .0) v hereIs i (a .1) (span-keep v hereIs 0 i xs hv) (L .keep _ _ _ _ xb ma))
         (span-snoc (b .0) d lowerIs i (b .1) (span-keep d lowerIs 0 i xs hd) mb)
         (span-tail (b .0) d deeperIs i n (b .1) (span-keep d deeperIs i n xs ht)) in
-        record { later = L .trans _ _ _ xs (r .later); near = r .near; far = r .far }
+        record { later = L .trans _ _ _ xs (r .later); v = r .v; d = r .d }
       where
         a : A .St × A .Ref
         a = valueOf A lab txt e s v c d
@@ -128,16 +133,16 @@ module _ (A : Algebra) (M : Reading A) (L : Laws A M) where
   -- TO THE PARENT: what has the values gv and gd is joined to what has the values gc and ge
   push-is : (v d : ℕ → A .Ref) (gv gd gc ge : ℕ → Bool) (n m i : ℕ) → m + i ≡ n → (s : A .St) (pc pd : ℕ → A .Ref)
       → Span s v gv 0 n → Span s d gd 0 n → Span s pc (λ e. gc e || gv e) 0 i → Span s pc gc i n → Span s pd (λ e. ge e || gd e) 0 i → Span s pd ge i n
-      → Gives n s (push A v d m i s pc pd) (λ e. gc e || gv e) (λ e. ge e || gd e)
+      → Passes n s (push A v d m i s pc pd) (λ e. gc e || gv e) (λ e. ge e || gd e)
   unfolding push
-  push-is v d gv gd gc ge n zero i k s pc pd hv hd hc hc′ he he′ = let e : i ≡ n = omega arith in record { later = L .same _; near = rw (← e) hc; far = rw (← e) he }
+  push-is v d gv gd gc ge n zero i k s pc pd hv hd hc hc′ he he′ = let e : i ≡ n = omega arith in record { later = L .same _; c = rw (← e) hc; d = rw (← e) he }
   push-is v d gv gd gc ge n (suc m) i k s pc pd hv hd hc hc′ he he′ =
       let r = push-is v d gv gd gc ge n m (suc i) (omega arith) (b .0) (upd pc i (a .1)) (upd pd i (b .1)) (span-keep v gv 0 n xs hv) (span-keep d gd 0 n xs hd)
       (span-snoc (b .0) pc (λ e. gc e || gv e) i (a .1) (span-keep pc (λ e. gc e || gv e) 0 i xs hc) (L .keep _ _ _ _ xb ma))
       (span-tail (b .0) pc gc i n (a .1) (span-keep pc gc i n xs hc′))
       (span-snoc (b .0) pd (λ e. ge e || gd e) i (b .1) (span-keep pd (λ e. ge e || gd e) 0 i xs he) mb)
       (span-tail (b .0) pd ge i n (b .1) (span-keep pd ge i n xs he′)) in
-      record { later = L .trans _ _ _ xs (r .later); near = r .near; far = r .far }
+      record { later = L .trans _ _ _ xs (r .later); c = r .c; d = r .d }
     where
       a : A .St × A .Ref
       a = A .or s (pc i) (v i)
@@ -192,8 +197,8 @@ module _ (A : Algebra) (M : Reading A) (L : Laws A M) where
         inside : k ≤ R .last
         inside = omega (arith, I .rows)
 
-        go : (b : Bool) → R .stands k ≡ b → Gives n (S .st) (cond b (record { st = S .st; near = varV k; far = varD k }) (visit A (λ w. labelIs w (R .label k)) (λ w. textIs w (R .text k)) (S .c k) es 0 (S .st) (λ e. A .low) (S .d k))) (λ e. ρ e (place k)) (λ e. δ e (place k))
-        go true e = record { later = L .same _; near = I .vars k inside e .0; far = I .vars k inside e .1 }
+        go : (b : Bool) → R .stands k ≡ b → Gives n (S .st) (cond b (record { st = S .st; v = varV k; d = varD k }) (visit A (λ w. labelIs w (R .label k)) (λ w. textIs w (R .text k)) (S .c k) es 0 (S .st) (λ e. A .low) (S .d k))) (λ e. ρ e (place k)) (λ e. δ e (place k))
+        go true e = record { later = L .same _; v = I .vars k inside e .0; d = I .vars k inside e .1 }
         go false e = visit-is fin ρ (place k) (λ w. labelIs w (R .label k)) (λ w. textIs w (R .text k)) (P .label-is k inside e) (P .text-is k inside e) n 0 es (add-zero n) w q (S .c k) (S .st) (λ e. A .low) (S .d k)
             (span-of (S .st) (S .c k) (fromKids ρ m (suc k) k) (λ j. some (ρ j) (fin .kids (place k))) n (λ j. kids-later fin R place P m k (I .rows) e (ρ j)) (I .kids k (omega arith)))
             (λ j a b. absurd (omega arith)) (λ j a b. absurd (omega arith))
@@ -228,8 +233,8 @@ module _ (A : Algebra) (M : Reading A) (L : Laws A M) where
     deliver-is m k S I = record {
       rows = omega (arith, I .rows);
       vars = λ j a b. (span-keep (varV j) (λ e. ρ e (place j)) 0 n later (I .vars j a b .0), span-keep (varD j) (λ e. δ e (place j)) 0 n later (I .vars j a b .1));
-      kids = table-is ρ m k (S .st) (p .st) later (S .c) (p .near) (I .kids) (g .near);
-      lower = table-is δ m k (S .st) (p .st) later (S .d) (p .far) (I .lower) (g .far);
+      kids = table-is ρ m k (S .st) (p .st) later (S .c) (p .c) (I .kids) (g .c);
+      lower = table-is δ m k (S .st) (p .st) later (S .d) (p .d) (I .lower) (g .d);
     }
       where
         n : ℕ
@@ -247,14 +252,14 @@ module _ (A : Algebra) (M : Reading A) (L : Laws A M) where
         h : Gives n (S .st) r (λ e. ρ e (place (suc k))) (λ e. δ e (place (suc k)))
         h = row-is m (suc k) S I
 
-        p : Vectors A
-        p = push A (r .near) (r .far) n 0 (r .st) (S .c par) (S .d par)
+        p : Delivered A
+        p = push A (r .v) (r .d) n 0 (r .st) (S .c par) (S .d par)
 
         before : (ℕ → t .N → Bool) → ℕ → Bool
         before g e = fromKids g m (suc (suc k)) par e
 
-        g : Gives n (r .st) p (λ e. before ρ e || ρ e (place (suc k))) (λ e. before δ e || δ e (place (suc k)))
-        g = push-is (r .near) (r .far) (λ e. ρ e (place (suc k))) (λ e. δ e (place (suc k))) (before ρ) (before δ) n n 0 (add-zero n) (r .st) (S .c par) (S .d par) (h .near) (h .far)
+        g : Passes n (r .st) p (λ e. before ρ e || ρ e (place (suc k))) (λ e. before δ e || δ e (place (suc k)))
+        g = push-is (r .v) (r .d) (λ e. ρ e (place (suc k))) (λ e. δ e (place (suc k))) (before ρ) (before δ) n n 0 (add-zero n) (r .st) (S .c par) (S .d par) (h .v) (h .d)
             (λ e a b. absurd (omega arith)) (span-keep (S .c par) (before ρ) 0 n (h .later) (I .kids par early))
             (λ e a b. absurd (omega arith)) (span-keep (S .d par) (before δ) 0 n (h .later) (I .lower par early))
 
@@ -268,12 +273,12 @@ module _ (A : Algebra) (M : Reading A) (L : Laws A M) where
 
     -- V and D of row 0
     pub record Answers (o : Vectors A) : Type 0 where
-      pub here : Span (o .st) (o .near) (λ e. ρ e (place 0)) 0 (length es)
-      pub lower : Span (o .st) (o .far) (λ e. δ e (place 0)) 0 (length es)
+      pub here : Span (o .st) (o .v) (λ e. ρ e (place 0)) 0 (length es)
+      pub lower : Span (o .st) (o .d) (λ e. δ e (place 0)) 0 (length es)
 
     pub run-is : (s : A .St) → VarsAre s → Answers (run A R es varV varD s)
     unfolding run
-    run-is s h = record { here = g .near; lower = g .far }
+    run-is s h = record { here = g .v; lower = g .d }
       where
         S₀ : Tables A
         S₀ = record { st = s; c = λ r e. A .low; d = λ r e. A .low }

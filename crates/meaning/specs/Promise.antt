@@ -34,11 +34,11 @@ NoStandIn F = (k : ℕ) → k < rowCount F → rowsOf F .stands k ≡ false
 
 abbrev pub OneBox : Type 0
 OneBox = (number : ℕ) (F : Fragment) → Sound number F → NoStandIn F → (es : List (Entry Bytes)) → Earlier 0 es
-    → (e : ℕ) → e < length es → Says (EntryHolds (alone (rowsOf F)) es e 0) (run (constants bool) (rowsOf F) es (λ k i. false) (λ k i. false) tt .near e)
+    → (e : ℕ) → e < length es → Says (EntryHolds (alone (rowsOf F)) es e 0) (run (constants bool) (rowsOf F) es (λ k i. false) (λ k i. false) tt .v e)
 
 abbrev pub OneBoxAnswer : Type 0
 OneBoxAnswer = (number : ℕ) (F : Fragment) → Sound number F → NoStandIn F → (q : Question)
-    → Says (Holds (alone (rowsOf F)) q 0) (run (constants bool) (rowsOf F) (entries q) (λ k i. false) (λ k i. false) tt .near (top q))
+    → Says (Holds (alone (rowsOf F)) q 0) (run (constants bool) (rowsOf F) (entries q) (λ k i. false) (λ k i. false) tt .v (top q))
 
 -- THE JOINED REGISTER: a child is a real row, its parent is the one that 01 means, every real row but the top one has just one;
 -- and a fragment's stand-ins are exactly its children in the layout, each met once

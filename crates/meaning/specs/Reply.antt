@@ -47,6 +47,6 @@ module _ (R : Rows) (es : List (Entry Bytes)) where
     entries = length es;
     ins = standIns R (suc (R .last));
     steps = laidRun .st;
-    v = tabulated (length es) 0 (laidRun .near);
-    d = tabulated (length es) 0 (laidRun .far);
+    v = tabulated (length es) 0 (laidRun .v);
+    d = tabulated (length es) 0 (laidRun .d);
   }

@@ -14,11 +14,17 @@ abbrev pub upd : {X : Type 0} → (ℕ → X) → ℕ → X → ℕ → X
 upd f i x j = cond (eqb j i) x (f j)
 
 module _ (A : Algebra) where
-  -- references of one row, by entry: V or C near, D far
+  -- V and D of one row, by entry
   pub record Vectors : Type 0 where
     pub st : A .St
-    pub near : ℕ → A .Ref
-    pub far : ℕ → A .Ref
+    pub v : ℕ → A .Ref
+    pub d : ℕ → A .Ref
+
+  -- C and D of a row that something was delivered to
+  pub record Delivered : Type 0 where
+    pub st : A .St
+    pub c : ℕ → A .Ref
+    pub d : ℕ → A .Ref
 
   -- C and D of every row, by row and entry
   pub record Tables : Type 0 where
@@ -44,15 +50,15 @@ module _ (A : Algebra) where
 
   -- at a real row, for each entry in order, the first being entry i: V by its kind, then D becomes V or D
   unfoldable pub visit : (Bytes → Bool) → (Bytes → Bool) → (ℕ → A .Ref) → List (Entry Bytes) → ℕ → A .St → (ℕ → A .Ref) → (ℕ → A .Ref) → Vectors
-  visit lab txt c [] i s v d = record { st = s; near = v; far = d }
+  visit lab txt c [] i s v d = record { st = s; v = v; d = d }
   visit lab txt c (e ∷ l) i s v d =
       let a = valueOf lab txt e s v c d in
       let b = A .or (a .0) (a .1) (d i) in
       visit lab txt c l (suc i) (b .0) (upd v i (a .1)) (upd d i (b .1))
 
   -- to the parent, for n entries from i on: its C becomes C or V, then its D becomes D or this D
-  unfoldable pub push : (ℕ → A .Ref) → (ℕ → A .Ref) → ℕ → ℕ → A .St → (ℕ → A .Ref) → (ℕ → A .Ref) → Vectors
-  push v d zero i s pc pd = record { st = s; near = pc; far = pd }
+  unfoldable pub push : (ℕ → A .Ref) → (ℕ → A .Ref) → ℕ → ℕ → A .St → (ℕ → A .Ref) → (ℕ → A .Ref) → Delivered
+  push v d zero i s pc pd = record { st = s; c = pc; d = pd }
   push v d (suc n) i s pc pd =
       let a = A .or s (pc i) (v i) in
       let b = A .or (a .0) (pd i) (d i) in
@@ -63,15 +69,15 @@ module _ (A : Algebra) where
     -- V and D of row k, the rows after it being done; a stand-in's are variables
     unfoldable pub row : ℕ → Tables → Vectors
     row k S =
-        cond (R .stands k) (record { st = S .st; near = varV k; far = varD k })
+        cond (R .stands k) (record { st = S .st; v = varV k; d = varD k })
         (visit (λ w. labelIs w (R .label k)) (λ w. textIs w (R .text k)) (S .c k) es 0 (S .st) (λ e. A .low) (S .d k))
 
     unfoldable pub deliver : ℕ → Tables → Tables
     deliver k S =
         let r = row k S in
         let p = R .parent k in
-        let o = push (r .near) (r .far) (length es) 0 (r .st) (S .c p) (S .d p) in
-        record { st = o .st; c = upd (S .c) p (o .near); d = upd (S .d) p (o .far) }
+        let o = push (r .v) (r .d) (length es) 0 (r .st) (S .c p) (S .d p) in
+        record { st = o .st; c = upd (S .c) p (o .c); d = upd (S .d) p (o .d) }
 
     -- rows k, k - 1, .. 1
     unfoldable pub sweep : ℕ → Tables → Tables

@@ -15,7 +15,7 @@ use Rattle.meaning.specs.Formula.{Ref, Step, added, constant, sorted, joined, n
 use Rattle.meaning.specs.Fragment.{Rows, rowCount, rowsOf}
 use Rattle.meaning.specs.Reply.{standIns, varV, varD, laidRun, laidDown}
 use Rattle.meaning.proofs.Reply.{position}
-use Rattle.meaning.specs.Run.{upd, literal, Vectors, Tables, valueOf, visit, push, row, deliver, sweep, run}
+use Rattle.meaning.specs.Run.{upd, literal, Vectors, Delivered, Tables, valueOf, visit, push, row, deliver, sweep, run}
 use Rattle.meaning.proofs.Numbers.{upd-same, upd-other}
 use Rattle.reply.specs.WellFormed.{vars, Result, Operand, Operands}
 use Rattle.reply.specs.Promise.{LaidFormed}
@@ -119,20 +119,26 @@ module _ (n : ℕ) where
   -- the two vectors made of the steps s, fine up to entry m
   pub record Vector (m : ℕ) (s : List Step) (o : Vectors formula) : Type 0 where
     pub good : Good (o .st)
-    pub near : (e : ℕ) → e < m → Fine (o .st) (o .near e)
-    pub far : (e : ℕ) → e < m → Fine (o .st) (o .far e)
+    pub v : (e : ℕ) → e < m → Fine (o .st) (o .v e)
+    pub d : (e : ℕ) → e < m → Fine (o .st) (o .d e)
     pub grows : length s ≤ length (o .st)
 
   pub record Whole (s : List Step) (o : Vectors formula) : Type 0 where
     pub good : Good (o .st)
-    pub near : All (o .st) (o .near)
-    pub far : All (o .st) (o .far)
+    pub v : All (o .st) (o .v)
+    pub d : All (o .st) (o .d)
+    pub grows : length s ≤ length (o .st)
+
+  pub record Raised (s : List Step) (o : Delivered formula) : Type 0 where
+    pub good : Good (o .st)
+    pub c : All (o .st) (o .c)
+    pub d : All (o .st) (o .d)
     pub grows : length s ≤ length (o .st)
 
   visit-whole : (lab txt : Bytes → Bool) (c : ℕ → Ref) (l : List (Entry Bytes)) (i : ℕ) (s : List Step) (v d : ℕ → Ref) → Good s → All s c → All s v → All s d
       → Whole s (visit formula lab txt c l i s v d)
   unfolding visit
-  visit-whole lab txt c [] i s v d g hc hv hd = record { good = g; near = hv; far = hd; grows = omega arith }
+  visit-whole lab txt c [] i s v d g hc hv hd = record { good = g; v = hv; d = hd; grows = omega arith }
   visit-whole lab txt c (x ∷ l) i s v d g hc hv hd =
       let a = value-made lab txt x s v c d g hv hc hd in
       let r = valueOf formula lab txt x s v c d in
@@ -142,12 +148,12 @@ module _ (n : ℕ) where
       let w = visit-whole lab txt c l (suc i) (t .0) (upd v i (r .1)) (upd d i (t .1)) (b .good) (all-more s (t .0) c st hc)
       (all-upd (t .0) v i (r .1) (all-more s (t .0) v st hv) (fine-more (r .0) (t .0) (r .1) (b .grows) (a .fine)))
       (all-upd (t .0) d i (t .1) (all-more s (t .0) d st hd) (b .fine)) in
-      record { good = w .good; near = w .near; far = w .far; grows = le-trans st (w .grows) }
+      record { good = w .good; v = w .v; d = w .d; grows = le-trans st (w .grows) }
 
   push-whole : (v d : ℕ → Ref) (m i : ℕ) (s : List Step) (pc pd : ℕ → Ref) → Good s → ((e : ℕ) → i ≤ e → e < m + i → Fine s (v e) × Fine s (d e)) → All s pc → All s pd
-      → Whole s (push formula v d m i s pc pd)
+      → Raised s (push formula v d m i s pc pd)
   unfolding push
-  push-whole v d zero i s pc pd g h hc hd = record { good = g; near = hc; far = hd; grows = omega arith }
+  push-whole v d zero i s pc pd g h hc hd = record { good = g; c = hc; d = hd; grows = omega arith }
   push-whole v d (suc m) i s pc pd g h hc hd =
       let here = h i (omega arith) (omega arith) in
       let a = made-or s (pc i) (v i) g (hc i) (here .0) in
@@ -159,7 +165,7 @@ module _ (n : ℕ) where
       (λ e x y. let f = h e (omega arith) (omega arith) in (fine-more s (t .0) (v e) st (f .0), fine-more s (t .0) (d e) st (f .1)))
       (all-upd (t .0) pc i (r .1) (all-more s (t .0) pc st hc) (fine-more (r .0) (t .0) (r .1) (b .grows) (a .fine)))
       (all-upd (t .0) pd i (t .1) (all-more s (t .0) pd st hd) (b .fine)) in
-      record { good = w .good; near = w .near; far = w .far; grows = le-trans st (w .grows) }
+      record { good = w .good; c = w .c; d = w .d; grows = le-trans st (w .grows) }
 
 -- ---- all rows
 var-lt : (l t n e : ℕ) → l < t → e < 2 * n → l * (2 * n) + e < vars n t
@@ -186,20 +192,20 @@ module _ (R : Rows) (es : List (Entry Bytes)) where
       w = visit-whole n _ _ (S .c k) es 0 (S .st) (λ e. Ref.low) (S .d k) (h .good) (h .c k) (λ e. tt) (h .d k)
 
       go : (b : Bool) → R .stands k ≡ b
-          → Vector n N (S .st) (cond b (record { st = S .st; near = varV R es k; far = varD R es k }) (visit formula (λ x. labelIs x (R .label k)) (λ x. textIs x (R .text k)) (S .c k) es 0 (S .st) (λ e. Ref.low) (S .d k)))
+          → Vector n N (S .st) (cond b (record { st = S .st; v = varV R es k; d = varD R es k }) (visit formula (λ x. labelIs x (R .label k)) (λ x. textIs x (R .text k)) (S .c k) es 0 (S .st) (λ e. Ref.low) (S .d k)))
       go true e =
           let p = position R k (suc (R .last)) (omega arith) e in
           record {
             good = h .good;
-            near = λ x y. var-lt (length (standIns R k)) (length (standIns R (suc (R .last)))) N x (p .early) (omega arith);
-            far = λ x y. var-lt (length (standIns R k)) (length (standIns R (suc (R .last)))) N (N + x) (p .early) (omega arith);
+            v = λ x y. var-lt (length (standIns R k)) (length (standIns R (suc (R .last)))) N x (p .early) (omega arith);
+            d = λ x y. var-lt (length (standIns R k)) (length (standIns R (suc (R .last)))) N (N + x) (p .early) (omega arith);
             grows = omega arith;
           }
-      go false e = record { good = w .good; near = λ x y. w .near x; far = λ x y. w .far x; grows = w .grows }
+      go false e = record { good = w .good; v = λ x y. w .v x; d = λ x y. w .d x; grows = w .grows }
 
   deliver-tabled : (k : ℕ) (S : Tables formula) → k ≤ R .last → Tabled S → Tabled (deliver formula R es (varV R es) (varD R es) k S)
   unfolding deliver
-  deliver-tabled k S l h = record { good = w .good; c = λ j. put (S .c) (o .near) j (h .c j) (w .near); d = λ j. put (S .d) (o .far) j (h .d j) (w .far) }
+  deliver-tabled k S l h = record { good = w .good; c = λ j. put (S .c) (o .c) j (h .c j) (w .c); d = λ j. put (S .d) (o .d) j (h .d j) (w .d) }
     where
       r : Vectors formula
       r = row formula R es (varV R es) (varD R es) k S
@@ -210,11 +216,11 @@ module _ (R : Rows) (es : List (Entry Bytes)) where
       v : Vector n N (S .st) r
       v = row-vector k S l h
 
-      o : Vectors formula
-      o = push formula (r .near) (r .far) N 0 (r .st) (S .c p) (S .d p)
+      o : Delivered formula
+      o = push formula (r .v) (r .d) N 0 (r .st) (S .c p) (S .d p)
 
-      w : Whole n (r .st) o
-      w = push-whole n (r .near) (r .far) N 0 (r .st) (S .c p) (S .d p) (v .good) (λ e x y. (v .near e (omega arith), v .far e (omega arith))) (all-more n (S .st) (r .st) (S .c p) (v .grows) (h .c p)) (all-more n (S .st) (r .st) (S .d p) (v .grows) (h .d p))
+      w : Raised n (r .st) o
+      w = push-whole n (r .v) (r .d) N 0 (r .st) (S .c p) (S .d p) (v .good) (λ e x y. (v .v e (omega arith), v .d e (omega arith))) (all-more n (S .st) (r .st) (S .c p) (v .grows) (h .c p)) (all-more n (S .st) (r .st) (S .d p) (v .grows) (h .d p))
 
       put : (f : ℕ → ℕ → Ref) (g : ℕ → Ref) (j : ℕ) → All n (S .st) (f j) → All n (o .st) g → All n (o .st) (upd f p g j)
       put f g j x y = go (ℕ-discrete j p)
@@ -233,7 +239,7 @@ module _ (R : Rows) (es : List (Entry Bytes)) where
   run-vector =
       let t = sweep-tabled (R .last) (record { st = []; c = λ r e. Ref.low; d = λ r e. Ref.low }) (omega arith) (record { good = λ i l. absurd (omega arith); c = λ k e. tt; d = λ k e. tt }) in
       let v = row-vector 0 (sweep formula R es (varV R es) (varD R es) (R .last) (record { st = []; c = λ r e. Ref.low; d = λ r e. Ref.low })) (omega arith) t in
-      record { good = v .good; near = v .near; far = v .far; grows = omega arith }
+      record { good = v .good; v = v .v; d = v .d; grows = omega arith }
 
 pub laid-formed : LaidFormed
 unfolding laidDown
@@ -253,6 +259,6 @@ laid-formed number f F sound es one few asked fits steps =
       ins-differ = rw e (ins-differ f F sound);
       few-steps = steps;
       operands = v .good;
-      v-good = λ i l. rw (tab-at (length es) i (laidRun (rowsOf F) es .near) Ref.low l) (v .near i l);
-      d-good = λ i l. rw (tab-at (length es) i (laidRun (rowsOf F) es .far) Ref.low l) (v .far i l);
+      v-good = λ i l. rw (tab-at (length es) i (laidRun (rowsOf F) es .v) Ref.low l) (v .v i l);
+      d-good = λ i l. rw (tab-at (length es) i (laidRun (rowsOf F) es .d) Ref.low l) (v .d i l);
     }

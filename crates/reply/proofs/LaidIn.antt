@@ -88,22 +88,22 @@ laid-in number f F sound es one few most work at v d h =
     let nv = vars-few f F sound (length es) few in
     let step-is : (i : ℕ) → i < k → StepCode 12 work (at + 3 * i) × (stepOf work (at + 3 * i) ≡ getD (laidRun (rowsOf F) es .st) i (Step.not Ref.low)) =
     λ i l. step-held n i nv (omega arith) work (at + 3 * i) (getD (laidRun (rowsOf F) es .st) i (Step.not Ref.low)) (o .good i l) (λ j y. there at work (laidRun (rowsOf F) es .st) (h .steps) i j l y) in
-    let near-is : (e : ℕ) → e < length es → RefCode 12 (getD work (v + e) 0) × (refOf (getD work (v + e) 0) ≡ laidRun (rowsOf F) es .near e) =
-    λ e l. ref-held n k nv most work (v + e) (laidRun (rowsOf F) es .near e) (o .near e l) (h .near e l) in
-    let far-is : (e : ℕ) → e < length es → RefCode 12 (getD work (d + e) 0) × (refOf (getD work (d + e) 0) ≡ laidRun (rowsOf F) es .far e) =
-    λ e l. ref-held n k nv most work (d + e) (laidRun (rowsOf F) es .far e) (o .far e l) (h .far e l) in
+    let v-read : (e : ℕ) → e < length es → RefCode 12 (getD work (v + e) 0) × (refOf (getD work (v + e) 0) ≡ laidRun (rowsOf F) es .v e) =
+    λ e l. ref-held n k nv most work (v + e) (laidRun (rowsOf F) es .v e) (o .v e l) (h .v-is e l) in
+    let d-read : (e : ℕ) → e < length es → RefCode 12 (getD work (d + e) 0) × (refOf (getD work (d + e) 0) ≡ laidRun (rowsOf F) es .d e) =
+    λ e l. ref-held n k nv most work (d + e) (laidRun (rowsOf F) es .d e) (o .d e l) (h .d-is e l) in
     record {
       asked = record {
         steps-inside = h .steps-inside;
         v-inside = h .v-inside;
         d-inside = h .d-inside;
         steps-good = λ i l. step-is i l .0;
-        v-good = λ e l. near-is e l .0;
-        d-good = λ e l. far-is e l .0;
+        v-good = λ e l. v-read e l .0;
+        d-good = λ e l. d-read e l .0;
       };
       reply =
           reply-same (replyIn number f (length es) (F .rows) work at k v d) (laidDown (rowsOf F) es number f) refl refl refl (row-ins F (sound .some-row))
           (sym (tab-is (λ i. stepOf work (at + 3 * i)) (Step.not Ref.low) (laidRun (rowsOf F) es .st) k refl (λ i l. sym (step-is i l .1))))
-          (tab-same (length es) (λ e. refOf (getD work (v + e) 0)) (laidRun (rowsOf F) es .near) Ref.low (λ e l. near-is e l .1))
-          (tab-same (length es) (λ e. refOf (getD work (d + e) 0)) (laidRun (rowsOf F) es .far) Ref.low (λ e l. far-is e l .1));
+          (tab-same (length es) (λ e. refOf (getD work (v + e) 0)) (laidRun (rowsOf F) es .v) Ref.low (λ e l. v-read e l .1))
+          (tab-same (length es) (λ e. refOf (getD work (d + e) 0)) (laidRun (rowsOf F) es .d) Ref.low (λ e l. d-read e l .1));
     }

@@ -60,8 +60,8 @@ CodeRef = (n m : ℕ) (r : Ref) → n ≤ 4096 → m ≤ 4096 → Result n m r �
 -- and writes that reply
 pub record LaidAt (R : Rows) (es : List (Entry Bytes)) (work : List ℕ) (at v d : ℕ) : Type 0 where
   pub steps : take (3 * length (laidRun R es .st)) (drop at work) ≡ numbers (laidRun R es .st)
-  pub near : (e : ℕ) → e < length es → getD work (v + e) 0 ≡ code (laidRun R es .near e)
-  pub far : (e : ℕ) → e < length es → getD work (d + e) 0 ≡ code (laidRun R es .far e)
+  pub v-is : (e : ℕ) → e < length es → getD work (v + e) 0 ≡ code (laidRun R es .v e)
+  pub d-is : (e : ℕ) → e < length es → getD work (d + e) 0 ≡ code (laidRun R es .d e)
   pub steps-inside : at + 3 * length (laidRun R es .st) ≤ length work
   pub v-inside : v + length es ≤ length work
   pub d-inside : d + length es ≤ length work
