@@ -13,17 +13,18 @@ use Rattle.meaning.specs.Reply.{laidRun, laidDown}
 use Rattle.meaning.specs.Run.{Vectors}
 use Rattle.question.specs.declared.List as L
 use Rattle.question.specs.Listed.{Keeps, listed}
-use Rattle.reply.specs.Codes.{FormulaIn, FrontIn, rowIns, replyIn}
-use Rattle.reply.specs.Post.{Written}
-use Rattle.reply.specs.Read as Read
+use Rattle.writing.specs.inner.Codes.{FormulaIn, FrontIn, rowIns, replyIn}
+use Rattle.writing.specs.inner.Codes.{Written}
+use Rattle.reply.specs.inner.Decode as Read
 use Rattle.reply.proofs.Lists.{tab-length}
 use Rattle.reply.proofs.Round.{size-is}
 use Rattle.meaning.specs.Refused.{Unless, refused, passed, Granted, granted}
-use Rattle.depot.specs.Answer.{Call, call, laid, bytes, memoryAfter, Answered, Worked}
-use Rattle.depot.specs.Formula as Made
-use Rattle.depot.specs.Formula.{Laid, Made}
+use Rattle.depot.specs.inner.Worked.{Worked}
+use Rattle.depot.specs.Answer.{Call, call, laid, bytes, memoryAfter, Answered}
+use Rattle.formula.specs.inner.Made as Made
+use Rattle.formula.specs.inner.Made.{Laid, Made}
 use Rattle.depot.proofs.Kept.{rows-ins, ins-few, front-in, formula-in, reply-in}
-use Rattle.depot.proofs.Sweeps.{listed-length}
+use Rattle.question.proofs.Listed.{listed-length}
 
 -- a memory of zeros, of whatever length
 pub zeros-self : (m : List ℕ) (k : ℕ) → m ≡ replicate k 0 → m ≡ replicate (length m) 0

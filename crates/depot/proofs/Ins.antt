@@ -12,7 +12,7 @@ use borrow.Author.Tests.{eq-eqb, ne-eqb, eqb-true}
 use Rattle.meaning.specs.Bound.{count}
 use Rattle.meaning.specs.Fragment.{Fragment, num, rowCount, rowsOf, StandIn, RowRule, Sound, Rows}
 use Rattle.meaning.specs.Reply.{standIns}
-use Rattle.depot.proofs.Counts.{count-most}
+use Rattle.formula.proofs.Counts.{count-most}
 
 -- COUNTING: a test that passes one number more
 same-count : (p q : ℕ → Bool) (n : ℕ) → ((x : ℕ) → x < n → p x ≡ q x) → count p n ≡ count q n

@@ -16,16 +16,16 @@ use Rattle.meaning.specs.Reply.{standIns, tabulated, laidRun, laidDown}
 use Rattle.meaning.specs.Run.{Vectors}
 use Rattle.question.specs.declared.List as L
 use Rattle.question.specs.Listed.{Keeps, listed}
-use Rattle.reply.specs.Read.{refFrom, stepFrom}
-use Rattle.reply.specs.Codes.{refOf, stepOf, refsAt, stepsAt, RefCode, StepCode, FormulaIn, FrontIn, bare, rowIns, replyIn}
+use Rattle.reply.specs.inner.Decode.{refFrom, stepFrom}
+use Rattle.writing.specs.inner.Codes.{refOf, stepOf, refsAt, stepsAt, RefCode, StepCode, FormulaIn, FrontIn, bare, rowIns, replyIn}
 use Rattle.reply.specs.WellFormed.{Result, Operand, Operands}
 use Rattle.reply.proofs.Lists.{tab-length, tab-at, tab-is}
-use Rattle.reply.specs.Codes.{code, stepNumbers, numbers}
-use Rattle.depot.specs.Formula.{Laid}
+use Rattle.writing.specs.inner.Codes.{code, stepNumbers, numbers}
+use Rattle.formula.specs.inner.Made.{Laid}
 use Rattle.depot.proofs.Ins.{stand-in, few-ins}
-use Rattle.depot.proofs.Laid.{keeps-earlier, laid-whole}
+use Rattle.depot.proofs.Laid.{laid-whole}
 use Rattle.depot.proofs.Shape.{Whole}
-use Rattle.depot.proofs.Sweeps.{listed-length}
+use Rattle.question.proofs.Listed.{listed-length, keeps-earlier}
 
 -- A REFERENCE is what its number stands for
 module _ (n m : ℕ) (hn : n ≤ 4096) (hm : m ≤ 4096) where

@@ -9,6 +9,7 @@ use mathlib.Core.Logic.{_≢_}
 use mathlib.Core.List.{List, [], _∷_, _++_}
 use lib.ListN.{length, getD, length-append, List·getD-append}
 use lib.Seq.{getD-append-seam}
+use Rattle.fragment.proofs.Rules.{block}
 use borrow.Author.Tests.{eqb-true}
 use Rattle.meaning.specs.Says.{Says, nay}
 use Rattle.meaning.specs.Bytes.{Bytes}
@@ -20,33 +21,8 @@ use Rattle.meaning.specs.Promise.{NoStandIn}
 use Rattle.meaning.specs.Reply.{standIns, tabulated, varV, varD, laidRun, laidDown}
 use Rattle.meaning.proofs.Bound.{step-bound}
 use Rattle.meaning.proofs.Reply.{position}
-use Rattle.question.specs.declared.List as L
-use Rattle.question.specs.Listed.{Kind, kindOf, EntryRule, Keeps, entryOf, listed}
 use Rattle.depot.proofs.Ins.{stand-in}
-use Rattle.depot.proofs.Loops.{block}
 use Rattle.depot.proofs.Shape.{Whole, run-fine}
-
--- A LIST THAT KEEPS ITS RULES points only at earlier entries
-rule-points : (t : Bytes) (i : ℕ) (q : Kind) (a b : ℕ) → EntryRule t i q a b → Points i (entryOf t q a b)
-rule-points t i Kind.self a b r = tt
-rule-points t i Kind.label a b r = tt
-rule-points t i Kind.text a b r = tt
-rule-points t i Kind.child a b r = r
-rule-points t i Kind.at a b r = r
-rule-points t i Kind.lower a b r = r
-rule-points t i Kind.or a b r = r
-rule-points t i Kind.and a b r = r
-rule-points t i Kind.not a b r = r
-rule-points t i Kind.unknown a b r = tt
-
-tabulated-earlier : (n i : ℕ) (f : ℕ → Entry Bytes) → ((j : ℕ) → j < n + i → Points j (f j)) → Earlier i (tabulated n i f)
-unfolding tabulated
-tabulated-earlier zero i f h = tt
-tabulated-earlier (suc n) i f h = (h i (omega arith), tabulated-earlier n (suc i) f (λ j l. h j (omega arith)))
-
-pub keeps-earlier : (l : L.List) (t : Bytes) → Keeps l t → Earlier 0 (listed l t)
-unfolding listed
-keeps-earlier l t k = tabulated-earlier (l .count) 0 _ (λ j h. rule-points t j (kindOf (getD (l .kinds) j 0)) (getD (l .left) j 0) (getD (l .right) j 0) (k .each j (omega arith)))
 
 -- THE STAND-INS by position
 module _ (R : Rows) where

@@ -1,13 +1,4 @@
-pub mod Rules
-pub mod KindTests
-pub mod Loops
-pub mod Words
-pub mod Counts
-pub mod Held
-pub mod Grows
-pub mod Visits
-pub mod Pushes
-pub mod Sweeps
+-- The laws behind the depot's proofs, and the proofs of what `specs/Promise.antt` promises.
 pub mod Ins
 pub mod Shape
 pub mod Laid

@@ -25,8 +25,8 @@ use Rattle.meaning.proofs.Refused.{One, one-granted, one-unless, beyond}
 use Rattle.depot.specs.Answer.{Call, call, laid, bytes, Late, Refusal, Answered, memoryAfter, bufferAfter}
 use Rattle.depot.specs.Promise.{OneAnswer, OnlyEight, NeverEight, LaidWellFormed, LaidBound, SameUse, Agree, UnusedIgnored}
 use Rattle.depot.proofs.Kept.{ins-few, whole}
-use Rattle.depot.proofs.Laid.{keeps-earlier, ins-fit, ins-differ, no-steps}
-use Rattle.depot.proofs.Sweeps.{listed-length}
+use Rattle.depot.proofs.Laid.{ins-fit, ins-differ, no-steps}
+use Rattle.question.proofs.Listed.{listed-length, keeps-earlier}
 
 -- ONE ANSWER
 refusal-one : (c : Call) (work out : List ℕ) → One (Refusal c work out)

@@ -17,7 +17,7 @@ use Rattle.meaning.specs.Fragment.{Rows}
 use Rattle.meaning.specs.Run.{Vectors, Delivered, Tables, upd, literal, valueOf, visit, push, row, deliver, sweep, run}
 use Rattle.meaning.proofs.Numbers.{upd-same, upd-other}
 use Rattle.reply.specs.WellFormed.{Result, Operand, Operands}
-use Rattle.depot.proofs.Grows.{joined-grows, value-grows, push-grows, row-grows}
+use Rattle.formula.proofs.Grows.{joined-grows, value-grows, push-grows, row-grows}
 
 module _ (n : ℕ) where
   result-more : (m m′ : ℕ) (r : Ref) → m ≤ m′ → Result n m r → Result n m′ r

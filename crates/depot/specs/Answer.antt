@@ -57,10 +57,3 @@ pub record Answered (c : Call) (work out : List ℕ) (r size : ℕ) (work′ out
   pub size-is : size ≡ cond (eqb r 0) (length (bytes c)) 0
   pub memory : work′ ≡ memoryAfter r work
   pub buffer : out′ ≡ bufferAfter c r out
-
--- the same for a call that escapes 5, 6 and 7
-pub record Worked (c : Call) (work out : List ℕ) (r size : ℕ) (work′ out′ : List ℕ) : Type 0 where
-  pub late : Late c out r
-  pub size-is : size ≡ cond (eqb r 0) (length (bytes c)) 0
-  pub zeros : work′ ≡ replicate (length work) 0
-  pub buffer : out′ ≡ bufferAfter c r out

@@ -1,7 +1,4 @@
--- What a reader must believe: `Lent`, `Answer`, and `Promise` for what is proved of them. `Formula` and `Flat` are what inner
--- functions' contracts cite.
-pub mod Lent
-pub mod Formula
-pub mod Flat
+-- What a reader must believe of a depot's answer; `Promise` says what is proved of it.
 pub mod Answer
 pub mod Promise
+pub mod inner

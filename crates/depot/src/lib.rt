@@ -1,22 +1,20 @@
 // A depot's work on one fragment: the rules of list and fragment, the formula in lent memory, and the reply written from it.
-mod formula;
-mod fragment;
-
-use crate::formula::clear;
-use crate::formula::formula;
-use crate::fragment::fragment_ok;
+use formula::clear;
+use formula::formula;
+use fragment::fragment_ok;
 use question::List;
 use question::rules::list_ok;
-use reply::writing::reply_size;
-use reply::writing::reply_write;
-use reply::writing::stand_ins;
+use writing::reply_size;
+use writing::reply_write;
+use writing::stand_ins;
 ghost use mathlib.Core.Path.{_≡_};
 ghost use Prim.Native.Nat.{_+_, _*_, _/_, _≤_};
 ghost use lib.ListN.{length};
 ghost use Rattle.meaning.specs.Fragment.{Sound};
 ghost use Rattle.question.specs.Listed.{Keeps};
-ghost use Rattle.depot.specs.Lent.{lent};
-ghost use Rattle.depot.specs.Answer.{call, Answered, Worked};
+ghost use Rattle.fragment.specs.Lent.{lent};
+ghost use Rattle.depot.specs.inner.Worked.{Worked};
+ghost use Rattle.depot.specs.Answer.{call, Answered};
 
 // The number of refusal, 0 for none, and the reply's size in bytes, 0 on refusal.
 #[repr(C)]

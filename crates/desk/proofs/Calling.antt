@@ -15,20 +15,21 @@ use Rattle.meaning.specs.Algebra.{bool}
 use Rattle.meaning.specs.Reply.{Reply}
 use Rattle.meaning.specs.Solve.{Values, solved, solve, blank, Outcome, waiting, said, isHeard, allHeard, outcome}
 use Rattle.meaning.proofs.Numbers.{eqb-true, eqb-false}
-use Rattle.reply.specs.Read.{Is, read}
-use Rattle.reply.specs.Post.{HeadIs}
+use Rattle.reply.specs.Read.{Is}
+use Rattle.reply.specs.inner.Decode.{read}
+use Rattle.reply.specs.inner.Fields.{HeadIs}
 use Rattle.reply.specs.declared.Head.{Head}
 use Rattle.reply.proofs.Round.{is-the, some-is, sound-of}
 use Rattle.meaning.specs.Refused.{refused, passed, granted}
-use Rattle.desk.specs.Whole.{Keeps, Free, Judging, Heard, partOf, Opened, Whole}
-use Rattle.desk.specs.Steps.{Judged}
-use Rattle.desk.specs.Values.{AllHeard, kept, answerOf}
+use Rattle.whole.specs.Whole.{Keeps, Free, Judging, Heard, partOf, Opened, Whole}
+use Rattle.whole.specs.inner.Steps.{Judged}
+use Rattle.solving.specs.inner.Values.{AllHeard, kept, answerOf}
 use Rattle.desk.specs.Changed.{openedAs, noted, putAt}
 use Rattle.desk.specs.Calls.{Opens, Why, Accepts, held, saidOf, Asks}
-use Rattle.desk.specs.declared.Question.{Question}
-use Rattle.desk.specs.declared.Record.{Record}
-use Rattle.desk.proofs.Pieces.{fragment-is, judged-free, was-open}
-use Rattle.desk.proofs.Truths.{bit, solved-same}
+use Rattle.whole.specs.declared.Question.{Question}
+use Rattle.whole.specs.declared.Record.{Record}
+use Rattle.whole.proofs.Pieces.{fragment-is, judged-free, was-open}
+use Rattle.solving.proofs.Truths.{bit, solved-same}
 
 -- ---- opening
 drop-zeros : (n m : ℕ) → drop {A = ℕ} n (replicate m 0) ≡ replicate (m - n) 0

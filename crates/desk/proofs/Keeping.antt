@@ -10,15 +10,15 @@ use lib.Seq.{length-take-le, take-append-le, drop-append-le, take-append-seam, d
 use Rattle.meaning.specs.Bytes.{Bytes}
 use Rattle.meaning.specs.Reply.{Reply}
 use Rattle.meaning.specs.Refused.{Unless}
-use Rattle.desk.specs.Tiles.{In, Tiled}
-use Rattle.desk.specs.Whole.{Keeps, Rules, layoutOf, Shaped, Free, Heard, placeOf, sizeOf, partOf, Own, Laid, Opened, Whole}
+use Rattle.whole.specs.Tiles.{In, Tiled}
+use Rattle.whole.specs.Whole.{Keeps, Rules, layoutOf, Shaped, Free, Heard, placeOf, sizeOf, partOf, Own, Laid, Opened, Whole}
 use Rattle.desk.specs.Changed.{openedAs, noted, putAt}
-use Rattle.desk.specs.Steps.{Sizes}
+use Rattle.whole.specs.inner.Steps.{Sizes}
 use Rattle.reply.specs.Read.{Is}
 use Rattle.desk.specs.Calls.{Opens, Accepts, Why}
 use Rattle.desk.specs.Promise.{FreshWhole, AfterTheLast, OpeningWhole, RefusedOpeningKeeps, AcceptingKeeps}
-use Rattle.desk.specs.declared.Question.{Question}
-use Rattle.desk.specs.declared.Record.{Record}
+use Rattle.whole.specs.declared.Question.{Question}
+use Rattle.whole.specs.declared.Record.{Record}
 use Rattle.desk.proofs.Unique.{one-open-refusal, Passed, passed}
 use Rattle.meaning.proofs.Refused.{through}
 

@@ -9,10 +9,10 @@ use Rattle.meaning.specs.Bytes.{Bytes}
 use Rattle.meaning.specs.Reply.{Reply}
 use Rattle.reply.specs.Read.{Is}
 use Rattle.meaning.proofs.Refused.{One, one-granted, one-unless, through}
-use Rattle.desk.specs.Whole.{Whole, Heard, Shaped}
+use Rattle.whole.specs.Whole.{Whole, Heard, Shaped}
 use Rattle.desk.specs.Calls.{Opens, Accepts, Asks, Why, OpenRefusal, AskRefusal}
 use Rattle.desk.specs.Promise.{OneOpening, OneAccepting, OneAsking}
-use Rattle.desk.specs.declared.Record.{Record}
+use Rattle.whole.specs.declared.Record.{Record}
 
 pub one-why : (d : Record) (store s : Bytes) → One (Why d store s)
 one-why d store s = one-unless (one-unless (one-unless (one-unless (one-unless (one-unless (one-unless one-granted))))))

@@ -9,12 +9,13 @@ use lib.Dec.{eqb}
 use Rattle.meaning.specs.Bytes.{Bytes}
 use Rattle.meaning.specs.Reply.{Reply}
 use Rattle.meaning.specs.Solve.{Outcome, waiting, said, outcome}
-use Rattle.reply.specs.Read.{read, Is}
+use Rattle.reply.specs.Read.{Is}
+use Rattle.reply.specs.inner.Decode.{read}
 use Rattle.meaning.specs.Refused.{Unless, Granted}
-use Rattle.desk.specs.Whole.{Keeps, Judging, Heard, partOf, Whole}
+use Rattle.whole.specs.Whole.{Keeps, Judging, Heard, partOf, Whole}
 use Rattle.desk.specs.Changed.{openedAs, noted, putAt}
-use Rattle.desk.specs.declared.Question.{Question}
-use Rattle.desk.specs.declared.Record.{Record}
+use Rattle.whole.specs.declared.Question.{Question}
+use Rattle.whole.specs.declared.Record.{Record}
 
 -- ---- opening
 abbrev pub OpenRefusal : Record → Bytes → ℕ → ℕ → ℕ → Type 0

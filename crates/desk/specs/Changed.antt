@@ -3,8 +3,8 @@ use Prim.Native.Nat.{ℕ, _+_, _-_}
 use mathlib.Core.List.{_++_}
 use lib.ListN.{length, set, take, drop, replicate}
 use Rattle.meaning.specs.Bytes.{Bytes}
-use Rattle.desk.specs.declared.Question.{Question}
-use Rattle.desk.specs.declared.Record.{Record}
+use Rattle.whole.specs.declared.Question.{Question}
+use Rattle.whole.specs.declared.Record.{Record}
 
 -- a fresh record
 abbrev pub blank : Record

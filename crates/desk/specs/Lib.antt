@@ -1,8 +1,4 @@
--- What a reader believes: Tiles, Whole, Changed, Calls, Promise. The rest is what inner functions' contracts cite.
-pub mod Tiles
-pub mod Whole
+-- What a reader must believe of the desk's calls; `Promise` says what is proved of them.
 pub mod Changed
 pub mod Calls
-pub mod Steps
-pub mod Values
 pub mod Promise

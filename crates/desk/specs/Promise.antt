@@ -4,11 +4,11 @@ use mathlib.Core.Path.{_≡_}
 use mathlib.Core.Logic.{_≢_}
 use lib.ListN.{length}
 use Rattle.meaning.specs.Bytes.{Bytes}
-use Rattle.desk.specs.Whole.{Keeps, Whole}
+use Rattle.whole.specs.Whole.{Keeps, Whole}
 use Rattle.desk.specs.Changed.{blank}
 use Rattle.desk.specs.Calls.{Opens, Accepts, Asks}
-use Rattle.desk.specs.Steps.{Sizes}
-use Rattle.desk.specs.declared.Record.{Record}
+use Rattle.whole.specs.inner.Steps.{Sizes}
+use Rattle.whole.specs.declared.Record.{Record}
 
 -- ---- any two results that a contract allows are equal
 abbrev pub OneOpening : Type 0

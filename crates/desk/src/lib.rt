@@ -1,11 +1,10 @@
 // The desk: one question at a time, replies put one after another in a lent store, and the answer once every fragment is heard.
 // Anyone may fill a record with anything: accepting and asking first judge record and store whole.
-mod solving;
-mod whole;
-
 use reply::header;
 use solving::all_heard;
 use solving::answer;
+use whole::Question;
+use whole::Record;
 use whole::is_heard;
 use whole::judge;
 use whole::layout_ok;
@@ -16,27 +15,6 @@ ghost use lib.ListN.{length};
 ghost use Rattle.meaning.specs.Register.{Layout};
 ghost use Rattle.desk.specs.Calls.{Opens, Why, Accepts, Asks};
 ghost use Rattle.desk.specs.Changed.{blank, openedAs, noted};
-
-// A question: its number (0: none is open), entry count, layout, and for each fragment whether it is heard (0: it is not),
-// where its reply starts in the store and how many bytes it has.
-#[repr(C)]
-pub struct Question {
-    pub number: u32,
-    pub entries: usize,
-    pub parts: usize,
-    pub layout: [u8; 32],
-    pub heard: [u8; 32],
-    pub place: [usize; 32],
-    pub size: [usize; 32],
-}
-
-// The last number opened, how many bytes of the store are used, and the question.
-#[repr(C)]
-pub struct Record {
-    pub last: u32,
-    pub used: usize,
-    pub question: Question,
-}
 
 // A refusal (0: none), and the record afterwards.
 #[repr(C)]

@@ -1,10 +1,10 @@
 // The desk's limits: 10, 11, 15, 17, 20.
 use crate::line;
-use desk::Record;
 use desk::accepted;
 use desk::desk_ask;
 use desk::desk_fresh;
 use desk::opened;
+use whole::Record;
 
 pub fn run() {
     layouts();

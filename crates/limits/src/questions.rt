@@ -1,6 +1,6 @@
 // The reader's limits: 1 to 4.
 use crate::line;
-use question::reader::question_read;
+use reader::question_read;
 
 pub fn run() {
     line(b"1 byte; none", read(b"."), read(b""));

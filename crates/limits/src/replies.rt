@@ -1,6 +1,6 @@
 // The limits on a reply, by the C host's check: 13.
 use crate::line;
-use reply::check::reply_check;
+use reply::judging::reply_check;
 
 pub fn run() {
     line(b"4,096 steps; 4,097", full(), over());

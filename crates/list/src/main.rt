@@ -1,7 +1,7 @@
 // Reads one written question from standard input, whole and without a newline, and prints its list, or `refused` and the number.
+use listing::question_listing;
 use question::List;
-use question::listing::question_listing;
-use question::reader::question_read;
+use reader::question_read;
 
 // Room for 256 bytes tells every text that is too long, and no longer one is kept.
 fn main() {

@@ -1,10 +1,2 @@
--- What a reader must believe: `Listed` (a list by value), `Nesting`, `Packed` and `Read` (what the reader answers). `Reading` is
--- what the inner functions promise each other.
+-- What a reader must believe of a list by value: its rules, and the entries that it stands for.
 pub mod Listed
-pub mod Nesting
-pub mod Packed
-pub mod Read
-pub mod Listing
-pub mod Promise
-pub mod Reading
-pub mod Page

@@ -1,7 +1,7 @@
 // Many questions and what 01 says of each: the question after a `?`, then its list or the refusal.
+use listing::question_listing;
 use question::List;
-use question::listing::question_listing;
-use question::reader::question_read;
+use reader::question_read;
 
 fn main() {
     the_paper();

@@ -15,20 +15,21 @@ use Rattle.meaning.specs.Fragment.{Fragment, Sound, rowCount, rowsOf, alone}
 use Rattle.meaning.specs.Reply.{Reply}
 use Rattle.meaning.specs.Promise.{NoStandIn}
 use Rattle.question.specs.declared.List as L
-use Rattle.question.specs.declared.Answer.{Answer}
+use Rattle.reader.specs.declared.Answer.{Answer}
 use Rattle.question.specs.Listed.{Keeps, listed}
-use Rattle.question.specs.Packed.{placedEntries, packed}
-use Rattle.question.specs.Read.{Written, Read}
-use Rattle.question.proofs.Outcome.{one-read, read-keeps}
+use Rattle.reader.specs.Packed.{placedEntries, packed}
+use Rattle.reader.specs.Read.{Written, Read}
+use Rattle.reader.proofs.Outcome.{one-read, read-keeps}
 use Rattle.reply.specs.Read.{Is}
 use Rattle.reply.proofs.Round.{most-bytes}
 use Rattle.depot.specs.Answer.{call, laid, bytes, Answered}
-use Rattle.depot.proofs.Laid.{keeps-earlier, no-steps}
+use Rattle.question.proofs.Listed.{keeps-earlier}
+use Rattle.depot.proofs.Laid.{no-steps}
 use Rattle.depot.proofs.Promised.{never-eight, laid-well-formed}
 use Rattle.meaning.specs.Refused.{Unless, Granted}
 use Rattle.desk.specs.Calls.{Opens, Accepts, Asks}
 use Rattle.desk.proofs.Unique.{one-open-refusal}
-use Rattle.desk.specs.declared.Record.{Record}
+use Rattle.whole.specs.declared.Record.{Record}
 use Rattle.register.specs.Calls.{Event, Calls, HandedIn}
 use Rattle.register.specs.Round.{Round, callOf, replyOf, bytesOf, Asked, Roomy, Honest, Yes, total}
 use Rattle.register.specs.Promise.{Good, OneBox, Right, Condition2, Faithful}

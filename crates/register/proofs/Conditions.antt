@@ -18,20 +18,21 @@ use Rattle.meaning.specs.Register.{joined}
 use Rattle.meaning.proofs.Entry.{readers-list, last-entry}
 use Rattle.meaning.proofs.Solve.{waits}
 use Rattle.question.specs.Listed.{listed}
-use Rattle.question.specs.Read.{Written, Read}
-use Rattle.question.proofs.Outcome.{read-listed}
-use Rattle.reply.specs.Read.{Is, read}
+use Rattle.reader.specs.Read.{Written, Read}
+use Rattle.reader.proofs.Outcome.{read-listed}
+use Rattle.reply.specs.Read.{Is}
+use Rattle.reply.specs.inner.Decode.{read}
 use Rattle.reply.proofs.Round.{fits-12, write-read}
-use Rattle.depot.proofs.Sweeps.{listed-length}
+use Rattle.question.proofs.Listed.{listed-length}
 use Rattle.depot.proofs.Promised.{laid-bound}
 use Rattle.meaning.specs.Refused.{Unless, Granted}
-use Rattle.desk.specs.Whole.{Whole, partOf}
+use Rattle.whole.specs.Whole.{Whole, partOf}
 use Rattle.desk.specs.Changed.{openedAs}
 use Rattle.desk.specs.Calls.{Opens, Accepts, Asks, Why, held, saidOf}
 use Rattle.desk.proofs.Unique.{one-why, one-ask-refusal}
 use Rattle.meaning.proofs.Refused.{through}
 use Rattle.desk.proofs.Keeping.{opening-whole}
-use Rattle.desk.specs.declared.Record.{Record}
+use Rattle.whole.specs.declared.Record.{Record}
 use Rattle.register.specs.Round.{Round, callOf, replyOf, bytesOf, Asked, Yes}
 use Rattle.register.specs.Promise.{RoundTrip, ReadersAnswer, NothingCarriesOver, StepsBounded}
 use Rattle.register.proofs.Verdicts.{formed}

@@ -22,11 +22,12 @@ use Rattle.meaning.specs.Register.{parts, rowsIn, joined}
 use Rattle.meaning.specs.Solve.{assign, solve, allHeard, outcome, Outcome, said, waiting}
 use Rattle.meaning.proofs.Lawful.{desk-answer}
 use Rattle.question.specs.Listed.{Keeps, listed}
-use Rattle.question.specs.Nesting.{nesting}
-use Rattle.question.specs.Packed.{placedEntries, packed}
-use Rattle.question.specs.Read.{Written, Read}
-use Rattle.question.proofs.Outcome.{read-keeps, read-listed}
-use Rattle.depot.proofs.Laid.{keeps-earlier, no-steps}
+use Rattle.reader.specs.Nesting.{nesting}
+use Rattle.reader.specs.Packed.{placedEntries, packed}
+use Rattle.reader.specs.Read.{Written, Read}
+use Rattle.reader.proofs.Outcome.{read-keeps, read-listed}
+use Rattle.question.proofs.Listed.{keeps-earlier}
+use Rattle.depot.proofs.Laid.{no-steps}
 use Rattle.depot.proofs.Promised.{laid-bound}
 use Rattle.register.specs.Round.{Round, callOf, replyOf, Asked}
 use Rattle.register.specs.Promise.{Good}

@@ -14,14 +14,14 @@ use Rattle.meaning.specs.Reply.{Reply}
 use Rattle.meaning.proofs.Numbers.{eqb-false}
 use Rattle.reply.specs.Write.{write}
 use Rattle.reply.specs.Read.{Is}
-use Rattle.desk.specs.Whole.{Whole, Opened, Heard, partOf, layoutOf}
+use Rattle.whole.specs.Whole.{Whole, Opened, Heard, partOf, layoutOf}
 use Rattle.desk.specs.Changed.{openedAs, noted, putAt}
-use Rattle.desk.specs.Steps.{Sizes}
+use Rattle.whole.specs.inner.Steps.{Sizes}
 use Rattle.desk.specs.Calls.{Opens, Accepts, Asks, Why}
 use Rattle.desk.proofs.Unique.{one-why, Passed, passed}
 use Rattle.desk.proofs.Keeping as Keeping
-use Rattle.desk.specs.declared.Question.{Question}
-use Rattle.desk.specs.declared.Record.{Record}
+use Rattle.whole.specs.declared.Question.{Question}
+use Rattle.whole.specs.declared.Record.{Record}
 use Rattle.register.specs.Calls.{Event, Calls, HandedIn}
 use Rattle.register.specs.Round.{Round, replyOf, bytesOf, Asked, Roomy, Honest, total}
 use Rattle.register.specs.Promise.{Faithful, Condition3}

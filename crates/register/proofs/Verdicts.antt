@@ -23,18 +23,18 @@ use Rattle.meaning.proofs.Solve.{waits, solves}
 use Rattle.question.specs.Listed.{listed}
 use Rattle.reply.specs.Write.{write}
 use Rattle.reply.specs.WellFormed.{WellFormed}
-use Rattle.reply.specs.Read.{Is, read}
+use Rattle.reply.specs.Read.{Is}
+use Rattle.reply.specs.inner.Decode.{read}
 use Rattle.reply.proofs.Round.{fits-12, write-read, one-reply}
-use Rattle.depot.proofs.Laid.{keeps-earlier}
-use Rattle.depot.proofs.Sweeps.{listed-length}
+use Rattle.question.proofs.Listed.{listed-length, keeps-earlier}
 use Rattle.depot.proofs.Promised.{laid-well-formed}
 use Rattle.meaning.specs.Refused.{Unless, Granted}
-use Rattle.desk.specs.Whole.{Whole, Opened, Heard, Shaped, layoutOf, partOf}
-use Rattle.desk.specs.Steps.{Sizes}
+use Rattle.whole.specs.Whole.{Whole, Opened, Heard, Shaped, layoutOf, partOf}
+use Rattle.whole.specs.inner.Steps.{Sizes}
 use Rattle.desk.specs.Calls.{Opens, Accepts, Asks, Why, Room, held, saidOf, AskRefusal}
 use Rattle.desk.proofs.Unique.{one-why, one-ask-refusal}
-use Rattle.desk.specs.declared.Question.{Question}
-use Rattle.desk.specs.declared.Record.{Record}
+use Rattle.whole.specs.declared.Question.{Question}
+use Rattle.whole.specs.declared.Record.{Record}
 use Rattle.register.specs.Round.{Round, callOf, replyOf, bytesOf, Asked, Yes, total}
 use Rattle.register.proofs.Sums.{weigh, spare, more}
 

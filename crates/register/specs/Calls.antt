@@ -4,7 +4,7 @@ use mathlib.Core.Logic.{_≢_}
 use mathlib.Core.List.{List, [], _∷_, List·Memᴰ}
 use Rattle.meaning.specs.Bytes.{Bytes}
 use Rattle.desk.specs.Calls.{Opens, Accepts, Asks}
-use Rattle.desk.specs.declared.Record.{Record}
+use Rattle.whole.specs.declared.Record.{Record}
 
 -- a call, with the number that it answered: bytes handed in, an ask with what it said, an opening
 pub data Event : Type 0 where

@@ -14,14 +14,15 @@ use Rattle.meaning.specs.Fragment.{Fragment, Sound, rowCount, rowsOf, alone}
 use Rattle.meaning.specs.Reply.{Reply}
 use Rattle.meaning.specs.Register.{parts, rowsIn, joined}
 use Rattle.meaning.specs.Promise.{NoStandIn}
-use Rattle.question.specs.Nesting.{nesting}
-use Rattle.question.specs.Packed.{placedEntries}
-use Rattle.question.specs.Read.{Written, Read}
-use Rattle.question.specs.declared.Answer.{Answer}
-use Rattle.reply.specs.Read.{Is, read}
+use Rattle.reader.specs.Nesting.{nesting}
+use Rattle.reader.specs.Packed.{placedEntries}
+use Rattle.reader.specs.Read.{Written, Read}
+use Rattle.reader.specs.declared.Answer.{Answer}
+use Rattle.reply.specs.Read.{Is}
+use Rattle.reply.specs.inner.Decode.{read}
 use Rattle.depot.specs.Answer.{call, Answered}
 use Rattle.desk.specs.Calls.{Opens, Accepts, Asks}
-use Rattle.desk.specs.declared.Record.{Record}
+use Rattle.whole.specs.declared.Record.{Record}
 use Rattle.register.specs.Calls.{Event, Calls, HandedIn}
 use Rattle.register.specs.Round.{Round, replyOf, bytesOf, Asked, Roomy, Honest, Yes}
 

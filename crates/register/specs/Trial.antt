@@ -11,7 +11,7 @@ use Rattle.meaning.specs.Bound.{Open, stepBound}
 use Rattle.meaning.specs.Fragment.{Fragment, Sound}
 use Rattle.meaning.specs.Register.{Register, rowsIn, joined}
 use Rattle.meaning.specs.Promise.{NoStandIn}
-use Rattle.question.specs.Packed.{placedEntries, packed}
+use Rattle.reader.specs.Packed.{placedEntries, packed}
 use Rattle.register.specs.Round.{Round, replyOf, Asked}
 use Rattle.register.specs.Promise.{Good}
 

@@ -12,8 +12,8 @@ use Rattle.bits.proofs.Laws.{field-holds, holds-field, holds-append, holds-spli
 use Rattle.meaning.specs.Formula.{Ref, Step}
 use Rattle.reply.specs.Write.{refBits, stepBits}
 use Rattle.reply.specs.WellFormed.{Result, Operand, Operands}
-use Rattle.reply.specs.Read.{refFrom, stepFrom, refWidth, stepWidth, refAt, stepAt}
-use Rattle.reply.specs.Sound.{RefOk, OperandOk, StepOk, RefGood, StepGood}
+use Rattle.reply.specs.inner.Decode.{refFrom, stepFrom, refWidth, stepWidth, refAt, stepAt}
+use Rattle.reply.specs.inner.Sound.{RefOk, OperandOk, StepOk, RefGood, StepGood}
 
 -- ---- a reference
 

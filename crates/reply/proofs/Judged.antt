@@ -7,8 +7,8 @@ use Rattle.meaning.specs.Formula.{Ref, Step}
 use Rattle.meaning.specs.Reply.{Reply}
 use Rattle.meaning.proofs.Says.{says-iff, says-and}
 use Rattle.reply.specs.WellFormed.{vars, Result, Operand, Operands, WellFormed, Fits}
-use Rattle.reply.specs.Read.{isResult, isOperand, areOperands, wellFormed, fits}
-use Rattle.reply.specs.Promise.{Judged}
+use Rattle.reply.specs.inner.Decode.{isResult, isOperand, areOperands, wellFormed, fits}
+use Rattle.reply.specs.inner.Promise.{Judged}
 use Rattle.reply.proofs.Tests.{says-lt, says-le, says-eq, says-ne, says-every}
 
 module _ (n m : ℕ) where

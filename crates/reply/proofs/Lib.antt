@@ -8,10 +8,5 @@ pub mod Judged
 pub mod Round
 pub mod Judge
 pub mod Verdicts
-pub mod Codes
-pub mod Whole
 pub mod Unique
-pub mod Rows
-pub mod Laid
-pub mod LaidIn
 pub mod Trial

@@ -12,8 +12,8 @@ use Rattle.meaning.specs.Formula.{Ref, Step}
 use Rattle.meaning.specs.Reply.{Reply}
 use Rattle.reply.specs.Write.{refBits, stepBits, each, headBits, replyBits}
 use Rattle.reply.specs.WellFormed.{vars, Result, WellFormed, Fits}
-use Rattle.reply.specs.Read.{refWidth, stepWidth, refAt, stepAt, insTo, stepsTo, vTo, endOf, inAt, insOf, stepsOf, entriesOf, fragmentOf, numberOf, decoded}
-use Rattle.reply.specs.Sound.{RefGood, StepGood, Sound}
+use Rattle.reply.specs.inner.Decode.{refWidth, stepWidth, refAt, stepAt, insTo, stepsTo, vTo, endOf, inAt, insOf, stepsOf, entriesOf, fragmentOf, numberOf, decoded}
+use Rattle.reply.specs.inner.Sound.{RefGood, StepGood, Sound}
 use Rattle.reply.proofs.Lists.{tab-is, each-length, each-at}
 use Rattle.reply.proofs.Fields.{ref-length, ref-out, step-length, step-out}
 use Rattle.reply.proofs.Sound.{Writes}

@@ -16,10 +16,12 @@ use Rattle.meaning.specs.Reply.{Reply}
 use Rattle.meaning.proofs.Says.{says-iff, says-and}
 use Rattle.reply.specs.Write.{replyBits, write}
 use Rattle.reply.specs.WellFormed.{vars, WellFormed, Fits}
-use Rattle.reply.specs.Read.{refWidth, stepWidth, insTo, stepsTo, vTo, numberOf, fragmentOf, entriesOf, insOf, stepsOf, inAt, refAt, stepAt, decoded, wellFormed, fits, read, Is}
-use Rattle.reply.specs.Sound.{Sound}
-use Rattle.reply.specs.Post.{verdict}
-use Rattle.reply.specs.Promise.{WriteRead, ReadWrite, OneReply, Fits12, MostBytes, SizeIs}
+use Rattle.reply.specs.Read.{Is}
+use Rattle.reply.specs.inner.Decode.{refWidth, stepWidth, insTo, stepsTo, vTo, numberOf, fragmentOf, entriesOf, insOf, stepsOf, inAt, refAt, stepAt, decoded, wellFormed, fits, read}
+use Rattle.reply.specs.inner.Sound.{Sound}
+use Rattle.reply.specs.inner.Fields.{verdict}
+use Rattle.reply.specs.inner.Promise.{SizeIs}
+use Rattle.reply.specs.Promise.{WriteRead, ReadWrite, OneReply, Fits12, MostBytes}
 use Rattle.reply.proofs.Tests.{says-same-bytes}
 use Rattle.reply.proofs.Judged.{says-formed, says-fits}
 use Rattle.reply.proofs.Sound.{Writes, sound-formed, sound-writes}

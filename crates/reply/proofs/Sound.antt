@@ -11,8 +11,8 @@ use Rattle.meaning.specs.Formula.{Ref, Step}
 use Rattle.meaning.specs.Reply.{Reply, tabulated}
 use Rattle.reply.specs.Write.{refBits, stepBits, headBits, replyBits}
 use Rattle.reply.specs.WellFormed.{Result, Operands, WellFormed}
-use Rattle.reply.specs.Read.{refWidth, stepWidth, refAt, stepAt, insTo, stepsTo, vTo, endOf, inAt, insOf, stepsOf, entriesOf, decoded}
-use Rattle.reply.specs.Sound.{RefGood, varsOf, Sound}
+use Rattle.reply.specs.inner.Decode.{refWidth, stepWidth, refAt, stepAt, insTo, stepsTo, vTo, endOf, inAt, insOf, stepsOf, entriesOf, decoded}
+use Rattle.reply.specs.inner.Sound.{RefGood, varsOf, Sound}
 use Rattle.reply.proofs.Lists.{tab-length, tab-at, at-each}
 use Rattle.reply.proofs.Fields.{ref-in, step-in}
 

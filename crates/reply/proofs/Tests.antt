@@ -9,7 +9,7 @@ use Rattle.meaning.specs.Says.{Says, aye, nay}
 use Rattle.meaning.specs.Bytes.{Bytes, sameBytes}
 use mathlib.Core.List.{[], _∷_}
 use Rattle.meaning.proofs.Says.{says-iff, says-and, says-not}
-use Rattle.reply.specs.Read.{every}
+use Rattle.reply.specs.inner.Decode.{every}
 use Rattle.reply.proofs.Lists.{up-to-suc}
 
 go : {A : Type 0} (b : Bool) → (b ≡ true → A) → (b ≡ false → A → ⊥) → Says A b

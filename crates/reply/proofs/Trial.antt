@@ -9,7 +9,7 @@ use Rattle.meaning.specs.Formula.{Ref, Step}
 use Rattle.meaning.specs.Reply.{Reply, tabulated}
 use Rattle.reply.specs.Write.{refBits, stepBits, each, headBits, replyBits, write}
 use Rattle.reply.specs.WellFormed.{vars}
-use Rattle.reply.specs.Read.{refFrom, stepFrom, refAt, stepAt, decoded, every, wellFormed, fits, read}
+use Rattle.reply.specs.inner.Decode.{refFrom, stepFrom, refAt, stepAt, decoded, every, wellFormed, fits, read}
 
 abbrev small : Reply
 small = record {

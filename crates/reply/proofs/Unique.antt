@@ -1,16 +1,14 @@
 -- Any two results that a contract allows are equal.
 use Prim.Native.Nat.{ℕ}
 use mathlib.Core.Path.{_≡_, refl, sym, _∙_}
-use Rattle.reply.specs.Promise.{OneVerdict, OneWritten, OneHead, OneIn, OneRef, OneStep}
+use Rattle.reply.specs.inner.Promise.{OneHead, OneIn, OneRef, OneStep}
+use Rattle.reply.specs.Promise.{OneVerdict}
 use Rattle.reply.specs.declared.Head.{Head}
 use Rattle.reply.specs.declared.RefField.{RefField}
 use Rattle.reply.specs.declared.StepField.{StepField}
 
 pub one-verdict : OneVerdict
 one-verdict s a b p q = p ∙ sym q
-
-pub one-written : OneWritten
-one-written w r old a b m n p q = (p .bytes ∙ sym (q .bytes), p .size-is ∙ sym (q .size-is))
 
 -- structs are equal where their fields are
 head : ℕ → ℕ → ℕ → ℕ → ℕ → Head

@@ -11,9 +11,9 @@ use Rattle.bits.specs.Bits.{Holds}
 use Rattle.bits.proofs.Laws.{field-lt}
 use Rattle.bits.specs.Bits.{Octets}
 use Rattle.reply.specs.WellFormed.{vars}
-use Rattle.reply.specs.Read.{endOf, vTo, insOf, stepsOf, entriesOf, read}
-use Rattle.reply.specs.Sound.{StepGood, RefGood, InGood, Sound, varsOf}
-use Rattle.reply.specs.Post.{HeadIs, verdict}
+use Rattle.reply.specs.inner.Decode.{endOf, vTo, insOf, stepsOf, entriesOf, read}
+use Rattle.reply.specs.inner.Sound.{StepGood, RefGood, InGood, Sound, varsOf}
+use Rattle.reply.specs.inner.Fields.{HeadIs, verdict}
 use Rattle.reply.specs.declared.Head.{Head}
 use Rattle.reply.proofs.Round.{sound-read, unsound-none}
 

@@ -1,9 +1,6 @@
--- What a reader must believe of a reply's bytes: `Write`, `WellFormed` and `Read`, with `Codes` for how a depot's memory holds a formula.
--- `Promise` says what is proved of them. `Sound` and `Post` are what inner functions' contracts cite.
+-- What a reader must believe of a reply's bytes; `Promise` says what is proved of them.
 pub mod Write
 pub mod WellFormed
 pub mod Read
-pub mod Codes
-pub mod Sound
-pub mod Post
 pub mod Promise
+pub mod inner

@@ -1,13 +1,12 @@
-// A reply and its bits: reading a field at its place, the check that any bytes are a reply, and writing one from a depot's memory.
+// A reply and its bits: reading a field at its place, and the check that any bytes are a reply.
 // The width of a reference's number is a parameter `w` wherever a reference is read or written.
-pub mod check;
-pub mod writing;
+pub mod judging;
 
 use bits::Cursor;
 ghost use Prim.Native.Nat.{_+_, _*_, _^_, _≤_, _<_};
 ghost use lib.ListN.{length};
-ghost use Rattle.reply.specs.Read.{refWidth, stepWidth, insTo};
-ghost use Rattle.reply.specs.Post.{HeadIs, InIs, RefIs, StepIs};
+ghost use Rattle.reply.specs.inner.Decode.{refWidth, stepWidth, insTo};
+ghost use Rattle.reply.specs.inner.Fields.{HeadIs, InIs, RefIs, StepIs};
 
 // Where the header ends and the stand-ins start.
 pub const HEAD_TO: usize = 60;

@@ -1,13 +1,13 @@
 // The register to try (01) through the real functions: each question is read, put to the three depots, and the desk gets their replies in
 // every order, each twice, and is asked after each.
 use depot::depot_reply;
-use desk::Record;
 use desk::accepted;
 use desk::desk_ask;
 use desk::desk_fresh;
 use desk::opened;
 use question::List;
-use question::reader::question_read;
+use reader::question_read;
+use whole::Record;
 
 // A desk, and whether all went as 01 says so far.
 struct Turn {

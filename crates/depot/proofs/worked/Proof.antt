@@ -1,7 +1,7 @@
 use native.Mathlib.Omega.{arith}
 use mathlib.Core.Path.{_∙_}
 use Rattle.depot.proofs.Answers.{zeros-self, zeros-as, cells-few, within-made, over-made, late-over, late-short, late-done, need-is, need-fits, size-asks, write-asks}
-use Rattle.depot.specs.Lent.{lent}
+use Rattle.fragment.specs.Lent.{lent}
 use lib.ListN.{length}
 use borrow.Author.Needs.{needs}
 use Rattle.depot.proofs.worked.Statement.{statement}

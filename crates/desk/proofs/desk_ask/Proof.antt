@@ -1,7 +1,7 @@
 -- `desk::desk_ask` meets its contract.
 use Rattle.reply.proofs.Tests.{says-yes, says-no}
 use Rattle.desk.proofs.Calling.{asks-20, asks-12, asks, says-waiting, answers-no, answers-yes}
-use Rattle.desk.proofs.Pieces.{was-open}
+use Rattle.whole.proofs.Pieces.{was-open}
 use borrow.Author.Needs.{needs}
 use Rattle.desk.proofs.desk_ask.Statement.{statement}
 use Rattle.desk.proofs.desk_ask.Tie as tie

@@ -43,10 +43,10 @@ use denote.Triple.Walked.{says, needs, Stays, stay-ref, stay-none, stay-none-sli
 use denote.Exit.{yes}
 use denote.Signature.{plain}
 use Rattle.desk.specs.Calls.{Opens}
-use Rattle.desk.specs.declared.Record.{Record}
+use Rattle.whole.specs.declared.Record.{Record}
 use Rattle.desk.specs.declared.Answer.{Answer}
-use Rattle.desk.proofs.Record as T
-use Rattle.desk.proofs.Record.Laws as T′
+use Rattle.whole.proofs.Record as T
+use Rattle.whole.proofs.Record.Laws as T′
 use Rattle.desk.proofs.Answer as O
 use Rattle.desk.proofs.Answer.Laws as O′
 use Rattle.desk.proofs.opened as opened′

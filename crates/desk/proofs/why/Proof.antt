@@ -3,7 +3,7 @@ use native.Mathlib.Omega.{arith}
 use Rattle.meaning.proofs.Says.{says-true, says-false}
 use Rattle.reply.proofs.Tests.{says-yes, says-no}
 use Rattle.desk.proofs.Calling.{judging-refused, judging-passed, not-heard, heard-before}
-use Rattle.desk.proofs.Pieces.{long-enough, was-open}
+use Rattle.whole.proofs.Pieces.{long-enough, was-open}
 use Rattle.meaning.specs.Refused.{refused, passed, granted}
 use borrow.Author.Needs.{needs}
 use Rattle.desk.proofs.why.Statement.{statement}

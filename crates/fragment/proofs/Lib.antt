@@ -1,0 +1,2 @@
+-- A row's rule as the code tests it.
+pub mod Rules

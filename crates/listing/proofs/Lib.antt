@@ -1,0 +1,3 @@
+-- The laws behind the listing's proofs.
+pub mod Pages
+pub mod Lines

@@ -1,0 +1,22 @@
+use lib.ListN.{List·getD-eq-default}
+use mathlib.Core.Path.{_≡_, refl, sym, ap, _∙_}
+use borrow.Author.Needs.{needs}
+use Rattle.reader.proofs.peek.Statement.{statement}
+use Rattle.reader.proofs.peek.Tie as tie
+use Rattle.reader.proofs.peek.Reads as reads
+use Rattle.reader.proofs.peek.Lts as lts
+
+-- src/lib.rt:139:26
+shared-slice-read-result : tie.Need-shared-slice-read-result
+shared-slice-read-result c = search needs
+
+-- src/lib.rt:136:1
+returns : tie.Need-returns
+returns c = search needs
+
+-- src/lib.rt:136:1
+returns-2 : tie.Need-returns-2
+returns-2 c = sym (List·getD-eq-default (c .before .args .text .now) 0 (c .if1 .left))
+
+pub peek-spec : {M : Type 1} → statement M
+peek-spec = tie.close (tie.spec shared-slice-read-result returns returns-2)

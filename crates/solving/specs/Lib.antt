@@ -1,0 +1,2 @@
+-- Solving is an inner function: no reader has to believe what its contract cites.
+pub mod inner

@@ -1,0 +1,4 @@
+-- The laws of record and store.
+pub mod Tiles
+pub mod Children
+pub mod Pieces
