@@ -50,8 +50,8 @@ extern "C" {
 #define REGISTER_BOX_REPLY(entries, stand_ins, steps) \
     ((60 + 5 * (size_t)(stand_ins) + 30 * (size_t)(steps) + 28 * (size_t)(entries) + 7) / 8)
 
-/* Bytes of stack to allow for below the caller: question_read goes deep with the text, the others do not. */
-#define REGISTER_BOX_STACK_READ 524288
+/* Bytes of stack to allow for below the caller: question_read goes deep with the text, whether it is a question or not; the others do not. */
+#define REGISTER_BOX_STACK_READ 655360
 #define REGISTER_BOX_STACK 65536
 
 /* ---- Refusals ---- */
@@ -126,6 +126,7 @@ struct depot_answer {
 
    text, list   the question as it was read; any bytes and any list that keeps the rules will do
    rows         1 to 512 rows, six numbers each: parent, kind, label start, label length, text start, text length.
+                rows_length counts numbers, not rows: 6 for each row.
                 Row 0 is real and its parent is 4294967295; any other row's parent is a smaller row number, of a real row.
                 Kind 0 is real: a label of 1 to 64 bytes and a text of 0 to 255, both wholly inside the pool.
                 Kind 1 is a stand-in: the third number is the fragment that it stands for (above this one, at most 31, no two the same), the
@@ -175,7 +176,8 @@ struct desk_record desk_fresh(void);
 
 /* Opens a question: its layout (a byte for each fragment, the parent's number; fragment 0 has 255, fragment k a parent below k), how many
    entries its list has, and its number. All earlier replies are forgotten and their room is free again. Of the old record only the last
-   number is read, so that any memory whose last number is set will do.
+   number counts, and the rest may hold anything. But all of it is read, so it must be memory that was written: by desk_fresh, by these
+   calls, or by memset and then the last number.
 
    Refuses, in this order: 10 the layout breaks a rule or has not 1 to 32 fragments, or entries not 1 to 32; 11 number not above the last
    opened. Refused, the record is unchanged. After number 4294967295 every opening that escapes 10 gets 11. */

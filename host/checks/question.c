@@ -1,5 +1,6 @@
-/* Reads the deepest questions that 255 bytes can write, under the stack that the header names, and lists 01's example into buffers that are
-   just long enough and one byte short. */
+/* question         Reads the deepest questions that 255 bytes can write, under the stack that the header names, and lists 01's example into
+                    buffers that are just long enough and one byte short.
+   question stack   Measures how much stack any text makes question_read use, and compares it with the header. It needs more itself. */
 #include "register_box.h"
 
 #include <stdio.h>
@@ -61,7 +62,82 @@ static void listing(void)
     expect("past the buffer", out[SIZE], 0xa5);
 }
 
-int main(void)
+/* ---- how deep reading goes ---- */
+
+/* The stack below is painted once, and after each text one sees how deep the paint is gone: looking a window below the deepest place so far,
+   which is wider than any frame of the reader, and at the end everywhere. The header must allow a margin beyond that. */
+enum { PAINTED = 2097152 / sizeof(uint32_t), WINDOW = 8192 / sizeof(uint32_t), MARGIN = 65536 };
+static const uint32_t paint = 0xa5c3963c;
+static const volatile uint32_t *bottom, *deepest;
+static uint8_t worst[REGISTER_BOX_MOST_TEXT];
+
+__attribute__((noinline)) static void paint_below(void)
+{
+    volatile uint32_t area[PAINTED];
+    for (size_t i = 0; i < PAINTED; i++)
+        area[i] = paint;
+    bottom = area;
+    deepest = area + PAINTED;
+}
+
+/* The lowest place from `from` on where the paint is gone. */
+static const volatile uint32_t *gone(const volatile uint32_t *from)
+{
+    while (from < deepest && *from == paint)
+        from++;
+    return from;
+}
+
+/* The text is `front`, then `word` over and over, then `ending`. */
+static void write_repeated(const char *front, const char *word, size_t word_length, const char *ending)
+{
+    length = 0;
+    write_units(front, 1);
+    for (size_t i = 0; length < sizeof text - strlen(ending); i++)
+        text[length++] = (uint8_t)word[i % word_length];
+    write_units(ending, 1);
+}
+
+/* The reader's functions call each other in circles. A circle that has no function twice takes at most four bytes, such as `|&.[`, so that the
+   deepest text repeats a word of one to four bytes, but for its first and last few. Texts that are no question go deepest, since nothing has
+   to be closed. */
+__attribute__((noinline)) static void measure(void)
+{
+    static const char signs[] = ".*a[(!/|&])";
+    static const char *const fronts[] = {"", "."}, *const endings[] = {"", ".", "a", "\"", "text()=\""};
+    enum { SIGNS = sizeof signs - 1 };
+    size_t count = 0, words = 1;
+    paint_below();
+    for (size_t word_length = 1; word_length <= 4; word_length++) {
+        words *= SIGNS;
+        for (size_t w = 0; w < words; w++) {
+            char word[4];
+            for (size_t i = 0, rest = w; i < word_length; i++, rest /= SIGNS)
+                word[i] = signs[rest % SIGNS];
+            for (size_t f = 0; f < sizeof fronts / sizeof *fronts; f++)
+                for (size_t e = 0; e < sizeof endings / sizeof *endings; e++) {
+                    write_repeated(fronts[f], word, word_length, endings[e]);
+                    question_read(text, length);
+                    count++;
+                    if (gone(deepest - WINDOW) < deepest) {
+                        deepest = gone(bottom);
+                        memcpy(worst, text, sizeof worst);
+                    }
+                }
+        }
+    }
+    /* our own frame is counted too */
+    size_t need = (size_t)((const volatile char *)__builtin_frame_address(0) - (const volatile char *)gone(bottom));
+    printf("question: %.16s .. %.9s goes deepest of %zu texts of %zu bytes: %zu bytes of stack, and the header allows %d\n", (const char *)worst,
+           (const char *)worst + sizeof worst - 9, count, sizeof worst, need, REGISTER_BOX_STACK_READ);
+    asked++;
+    if (need + MARGIN > REGISTER_BOX_STACK_READ) {
+        wrong++;
+        printf("WRONG: the header has to allow %d bytes more than the text needs\n", MARGIN);
+    }
+}
+
+static void deepest_texts(void)
 {
     deep("(", ")", 127, 3);
     deep("!(", ")", 84, 3);
@@ -74,7 +150,19 @@ int main(void)
     deep(".&", "", 127, 4);
     deep("*/", "", 127, 4);
     deep(".//", "", 84, 4);
-    listing();
+    deep("(", "", 254, 2);
+    deep(".[", "", 127, 2);
+    deep("*[", "", 127, 2);
+}
+
+int main(int argc, char **argv)
+{
+    if (argc > 1 && strcmp(argv[1], "stack") == 0) {
+        measure();
+    } else {
+        deepest_texts();
+        listing();
+    }
     printf("question: %d answers, %d wrong\n", asked, wrong);
     return wrong != 0;
 }

@@ -4,5 +4,6 @@
 void *memcpy(void *to, const void *from, size_t size);
 void *memset(void *at, int byte, size_t size);
 int memcmp(const void *a, const void *b, size_t size);
+int strcmp(const char *a, const char *b);
 size_t strlen(const char *text);
 #endif
