@@ -4,12 +4,13 @@ use native.Mathlib.Omega.{arith}
 use mathlib.Core.Path.{_≡_, refl, sym, ap, _∙_, subst}
 use mathlib.Core.Bool.{Bool, true, false, cond, true≢false}
 use mathlib.Core.Logic.{_⊎_, inl, inr, _↔_}
-use mathlib.Core.List.{[], _∷_}
+use mathlib.Core.List.{[], _∷_, _++_}
 use lib.ListN.{length, getD}
 use Rattle.meaning.specs.Bytes.{Bytes}
 use Rattle.meaning.specs.Tree.{Tree, Below}
 use Rattle.meaning.specs.Term.{Term, Means}
 use Rattle.meaning.specs.Fragment.{Fragment, Sound, Rows, rowCount, rowsOf, ChildRow, alone}
+use Rattle.meaning.specs.Reply.{standIns}
 use Rattle.meaning.specs.Register.{Register, parts, rowsIn, parentOf, StandsFor, Cut, JoinedChild, joined}
 use Rattle.meaning.specs.Promise.{NoStandIn}
 
@@ -62,6 +63,14 @@ boxed F = record { layout = 255 ∷ []; fragment = λ f. F }
 module _ (F : Fragment) (sound : Sound 0 F) (none : NoStandIn F) where
   real-row : (k : ℕ) → k ≤ rowsOf F .last → rowsOf F .stands k ≡ false
   real-row k h = none k (omega (arith, h, sound .some-row))
+
+  no-ins-before : (k : ℕ) → k ≤ rowCount F → length (standIns (rowsOf F) k) ≡ 0
+  unfolding standIns
+  no-ins-before zero h = refl
+  no-ins-before (suc k) h = ap (λ b. length (cond b (standIns (rowsOf F) k ++ (rowsOf F .goes k ∷ [])) (standIns (rowsOf F) k))) (none k (omega arith)) ∙ no-ins-before k (omega arith)
+
+  pub no-ins : length (standIns (rowsOf F) (suc (rowsOf F .last))) ≡ 0
+  no-ins = no-ins-before (suc (rowsOf F .last)) (omega (arith, sound .some-row))
 
   pub boxed-cut : Cut (boxed F)
   boxed-cut = record {

@@ -12,7 +12,7 @@ use Rattle.meaning.specs.Bytes.{Bytes}
 use Rattle.meaning.specs.Entry.{term}
 use Rattle.meaning.specs.Holds.{Holds}
 use Rattle.meaning.specs.Fragment.{Fragment, Sound, rowCount, rowsOf, alone}
-use Rattle.meaning.specs.Reply.{Reply}
+use Rattle.meaning.specs.Reply.{Reply, laidDown}
 use Rattle.meaning.specs.Promise.{NoStandIn}
 use Rattle.question.specs.declared.List as L
 use Rattle.reader.specs.declared.Answer.{Answer}
@@ -21,7 +21,7 @@ use Rattle.reader.specs.Packed.{placedEntries, packed}
 use Rattle.reader.specs.Read.{Written, Read}
 use Rattle.reader.proofs.Outcome.{one-read, read-keeps}
 use Rattle.reply.specs.Read.{Is}
-use Rattle.reply.proofs.Round.{most-bytes}
+use Rattle.reply.proofs.Round.{size-is}
 use Rattle.depot.specs.Answer.{call, laid, bytes, Answered}
 use Rattle.question.proofs.Listed.{keeps-earlier}
 use Rattle.depot.proofs.Laid.{no-steps}
@@ -31,11 +31,12 @@ use Rattle.desk.specs.Calls.{Opens, Accepts, Asks}
 use Rattle.desk.proofs.Unique.{one-open-refusal}
 use Rattle.whole.specs.declared.Record.{Record}
 use Rattle.register.specs.Calls.{Event, Calls, HandedIn}
-use Rattle.register.specs.Round.{Round, callOf, replyOf, bytesOf, Asked, Roomy, Honest, Yes, total}
-use Rattle.register.specs.Promise.{Good, OneBox, Right, Condition2, Faithful}
-use Rattle.register.proofs.Verdicts.{is-laid, same-reply, laid-fragment}
-use Rattle.register.proofs.Trace.{condition-3, handedBytes}
-use Rattle.register.proofs.Alone.{boxed, boxed-cut, alone-joined}
+use Rattle.register.specs.Round.{Round, callOf, total, Meaning}
+use Rattle.register.specs.Promise.{Good, OneBox, AllTaken, ownSize, Condition2}
+use Rattle.register.proofs.Laid.{replyOf, bytesOf, Asked, LaidRoom, LaidHonest}
+use Rattle.register.proofs.Verdicts.{is-laid, same-reply, laid-fragment, laid-entries}
+use Rattle.register.proofs.Trace.{laid-faithful, handedBytes}
+use Rattle.register.proofs.Alone.{boxed, no-ins, boxed-cut, alone-joined}
 use Rattle.register.proofs.Conditions.{readers-last}
 
 module _ (t : Bytes) (good : Good t) (F : Fragment) (sound : Sound 0 F) (none : NoStandIn F) (number : ℕ) (some : 0 < number) (fits : number < 2 ^ 32) where
@@ -66,15 +67,22 @@ module _ (t : Bytes) (good : Good t) (F : Fragment) (sound : Sound 0 F) (none : 
       zeroth : (f : ℕ) → f < 1 → 0 ≡ f
       zeroth f h = omega arith
 
-  short : length (bytesOf R 0) ≤ 15499
-  short = most-bytes (replyOf R 0) (is-laid R asked 0 (omega arith) .formed)
+  abbrev own : ℕ
+  own = ownSize (length (placedEntries (good .written .tree)))
 
-  roomy : (store : Bytes) → 15499 ≤ length store → Roomy R store
+  short : length (bytesOf R 0) ≤ own
+  unfolding laidDown packed
+  short =
+      let w = is-laid R asked 0 (omega arith) .formed in
+      let e = size-is 12 (replyOf R 0) (w .v-all) (w .d-all) in
+      omega (arith, e, nothing-left, no-ins F sound none, laid-entries R asked 0)
+
+  roomy : (store : Bytes) → own ≤ length store → LaidRoom R store
   unfolding total
   roomy store h = omega (arith, short, h)
 
   -- the one reply handed in
-  honest : (n : ℕ) → Honest R (Event.handed (bytesOf R 0) n ∷ [])
+  honest : (n : ℕ) → LaidHonest R (Event.handed (bytesOf R 0) n ∷ [])
   honest n s m (List·Memᴰ·tail k) r i e = absurd (List·Memᴰ·not-nil k)
   honest n s m (List·Memᴰ·head k) r i e = (subst (λ z. z < 1) (sym zero-is) (omega arith), is ∙ ap (replyOf R) (sym zero-is))
     where
@@ -86,7 +94,7 @@ module _ (t : Bytes) (good : Good t) (F : Fragment) (sound : Sound 0 F) (none : 
 
   -- ---- the calls in turn
   module _ (old : Record) (above : old .last < number) (work : List ℕ) (out store : Bytes)
-      (memory : 4 * (rowCount F * length (placedEntries (good .written .tree))) + 12288 ≤ length work) (buffer : 15499 ≤ length out) (room : 15499 ≤ length store)
+      (memory : 4 * (rowCount F * length (placedEntries (good .written .tree))) + 12288 ≤ length work) (buffer : own ≤ length out) (room : own ≤ length store)
       (b : OneBox t F old number work out store) where
     is-read : b .read ≡ record { refusal = 0; list = tree-list }
     is-read = one-read t (b .read) (record { refusal = 0; list = tree-list }) (b .reading) reads
@@ -125,25 +133,25 @@ module _ (t : Bytes) (good : Good t) (F : Fragment) (sound : Sound 0 F) (none : 
 
     accept-taken : b .accept-refusal ≡ 0
     accept-taken =
-        condition-3 R asked old (b .opened) store opened (roomy store room) [] (b .opened) store Calls.none (λ s n m. absurd (List·Memᴰ·not-nil m))
+        laid-faithful R asked old (b .opened) store opened (roomy store room) [] (b .opened) store Calls.none (λ s n m. absurd (List·Memᴰ·not-nil m))
         .first 0 (omega arith) (λ h. List·Memᴰ·not-nil (h .1)) (b .accept-refusal) (b .accepted) (b .stored) accepting
 
-    answered : (b .ask-refusal ≡ 0) × (((b .says ≡ 2) × Yes R) ⊎ ((b .says ≡ 1) × (Yes R → ⊥)))
+    answered : (b .ask-refusal ≡ 0) × (((b .says ≡ 2) × Meaning R) ⊎ ((b .says ≡ 1) × (Meaning R → ⊥)))
     answered =
-        condition-3 R asked old (b .opened) store opened (roomy store room) (Event.handed (bytesOf R 0) (b .accept-refusal) ∷ []) (b .accepted) (b .stored)
+        laid-faithful R asked old (b .opened) store opened (roomy store room) (Event.handed (bytesOf R 0) (b .accept-refusal) ∷ []) (b .accepted) (b .stored)
         (Calls.hand (bytesOf R 0) (b .accept-refusal) accepting Calls.none) (honest (b .accept-refusal))
         .answer (λ f h. (b .accept-refusal, List·Memᴰ·head (ap (λ z. Event.handed (bytesOf R z) (b .accept-refusal)) (zeroth f h)))) (b .ask-refusal) (b .says) (b .asking)
       where
         zeroth : (f : ℕ) → f < 1 → f ≡ 0
         zeroth f h = omega arith
 
-    meant : Yes R ↔ Holds (alone (rowsOf F)) (good .written .tree) 0
+    meant : Meaning R ↔ Holds (alone (rowsOf F)) (good .written .tree) 0
     meant =
         let j = alone-joined F sound none (term (listed tree-list t) (tree-list .count - 1)) in
-        let k = readers-last R reads (good .written) (alone (rowsOf F)) 0 in
+        let k = readers-last R (record { refusal = 0; list = tree-list }) reads refl refl (good .written) (alone (rowsOf F)) 0 in
         (λ y. k .0 (j .0 y), λ y. j .1 (k .1 y))
 
-    pub right : Right t good F b
+    pub right : AllTaken (Holds (alone (rowsOf F)) (good .written .tree) 0) b
     right = record {
       read-taken = ap (λ z. z .refusal) is-read;
       reply-taken = reply-taken;

@@ -29,7 +29,8 @@ use Rattle.reader.proofs.Outcome.{read-keeps, read-listed}
 use Rattle.question.proofs.Listed.{keeps-earlier}
 use Rattle.depot.proofs.Laid.{no-steps}
 use Rattle.depot.proofs.Promised.{laid-bound}
-use Rattle.register.specs.Round.{Round, callOf, replyOf, Asked}
+use Rattle.register.specs.Round.{Round, callOf}
+use Rattle.register.proofs.Laid.{replyOf, Asked, all-replied}
 use Rattle.register.specs.Promise.{Good}
 use Rattle.register.specs.Trial.{fragment, register, round, Case, Table}
 use Rattle.register.proofs.Tried.{cut, isOpen, tells, one-box, none-1, none-2}
@@ -63,7 +64,7 @@ isYes waiting = false
 isYes (said b) = b
 
 case : {text : Bytes} {answer : Bool} (q : Question) → write q ≡ text → 1 ≤ length text → length text ≤ 255 → nesting q ≤ 12 → length (placedEntries q) ≤ 32 → heardAll q ≡ said answer → Case text answer
-case {text} {answer} q w a b c d e = record { good = good; asked = asked text good; right = subst (Says (Holds (joined register) q (0, 0))) (ap isYes (sym (desk-answer register cut q 1 .1) ∙ e)) (desk-answer register cut q 1 .2) }
+case {text} {answer} q w a b c d e = record { good = good; replied = all-replied (round text good) (asked text good); right = subst (Says (Holds (joined register) q (0, 0))) (ap isYes (sym (desk-answer register cut q 1 .1) ∙ e)) (desk-answer register cut q 1 .2) }
   where
     good : Good text
     good = record { written = record { tree = q; writes = w }; some-byte = a; few-bytes = b; shallow = c; few-entries = d }
@@ -222,5 +223,6 @@ table = record {
   isOpen = isOpen;
   tells = tells;
   m-bound = m-bound;
+  cut = cut;
   one-box = one-box;
 }

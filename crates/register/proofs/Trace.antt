@@ -23,8 +23,8 @@ use Rattle.desk.proofs.Keeping as Keeping
 use Rattle.whole.specs.declared.Question.{Question}
 use Rattle.whole.specs.declared.Record.{Record}
 use Rattle.register.specs.Calls.{Event, Calls, HandedIn}
-use Rattle.register.specs.Round.{Round, replyOf, bytesOf, Asked, Roomy, Honest, total}
-use Rattle.register.specs.Promise.{Faithful, Condition3}
+use Rattle.register.specs.Round.{Round, total}
+use Rattle.register.proofs.Laid.{replyOf, bytesOf, Asked, LaidRoom, LaidHonest, LaidFaithful}
 use Rattle.register.proofs.Sums.{weigh, more, empty}
 use Rattle.register.proofs.Verdicts.{heardBit, Ready, sizeOf, many, is-laid, same-reply, laid-fragment, told, takes, repeats, no-reply, foreign, waits-for, answers, bit-on, silent}
 
@@ -97,7 +97,7 @@ module _ (R : Round) (a : Asked R) where
   unheard : {X : Type 0} (f : ℕ) → Heard (fresh .question) f → X
   unheard f h = absurd (h .1 (getD-replicate 32 f 0 0 (h .0)))
 
-  fresh-ready : (old : Record) (store : Bytes) → Opens old (R .register .layout) (R .list .count) (R .number) 0 fresh → Roomy R store → Ready R a (λ f. ⊥) fresh store
+  fresh-ready : (old : Record) (store : Bytes) → Opens old (R .register .layout) (R .list .count) (R .number) 0 fresh → LaidRoom R store → Ready R a (λ f. ⊥) fresh store
   fresh-ready old store o r = record {
     number-is = refl;
     entries-is = refl;
@@ -193,10 +193,10 @@ module _ (R : Round) (a : Asked R) where
       go (no z) = rw (c .refused z .0, c .refused z .1) (relabel (kept z) (λ f h k. inl k) w)
 
   -- ---- any calls
-  later : {c : Event} {l : List Event} → Honest R (c ∷ l) → Honest R l
+  later : {c : Event} {l : List Event} → LaidHonest R (c ∷ l) → LaidHonest R l
   later h s n m = h s n (List·Memᴰ·tail m)
 
-  run : {H : ℕ → Type 0} {d e : Record} {store x : Bytes} {l : List Event} → Calls d store l e x → Honest R l → Ready R a H d store
+  run : {H : ℕ → Type 0} {d e : Record} {store x : Bytes} {l : List Event} → Calls d store l e x → LaidHonest R l → Ready R a H d store
       → Ready R a (λ f. H f ⊎ HandedIn (bytesOf R f) l) e x
   run {H} Calls.none h w = relabel (λ f k z. nothing-handed (H f) (bytesOf R f) z) (λ f k z. inl z) w
   run {H} (Calls.hand s n c k) h w = relabel (λ f j z. one-handed (H f) (bytesOf R f) z) (λ f j z. handed-one (H f) (bytesOf R f) z) (run {H = λ f. H f ⊎ (s ≡ bytesOf R f)} k (later h) (hand-ready w c (h s n (List·Memᴰ·head refl))))
@@ -205,7 +205,7 @@ module _ (R : Round) (a : Asked R) where
       relabel (λ f j y. mute-later (H f) (bytesOf R f) refl y) (λ f j y. later-mute (H f) (bytesOf R f) refl y) (run {H = H} k (later h) (subst (λ b. Ready R a H b store) (sym (c .refused z)) w))
 
   -- ---- what it says then
-  faithful : {l : List Event} {d : Record} {store : Bytes} → Ready R a (λ f. HandedIn (bytesOf R f) l) d store → Faithful R l d store
+  faithful : {l : List Event} {d : Record} {store : Bytes} → Ready R a (λ f. HandedIn (bytesOf R f) l) d store → LaidFaithful R l d store
   faithful {l} {d} {store} w = record {
     waiting = λ f h u. waits-for R a w f h (λ y. u (w .only f y .1));
     answer = λ all. answers R a w (λ f h. w .heard f h (all f h));
@@ -215,8 +215,9 @@ module _ (R : Round) (a : Asked R) where
     stranger = λ s r i u n e x c. one-why d store s n 14 (c .why) (foreign R a w s r i u);
   }
 
-pub condition-3 : Condition3
-condition-3 R a old d store o room l e x c h =
+pub laid-faithful : (R : Round) → Asked R → (old d : Record) (store : Bytes) → Opens old (R .register .layout) (R .list .count) (R .number) 0 d → LaidRoom R store
+    → (l : List Event) (e : Record) (x : Bytes) → Calls d store l e x → LaidHonest R l → LaidFaithful R l e x
+laid-faithful R a old d store o room l e x c h =
     faithful R a (relabel R a (λ f k z. inr z) (λ f k z. none-before z)
     (run R a {H = λ f. ⊥} c h (subst (λ b. Ready R a (λ f. ⊥) b store) (sym is) (fresh-ready R a old store (subst (λ b. Opens old (R .register .layout) (R .list .count) (R .number) 0 b) is o) room))))
   where

@@ -35,7 +35,8 @@ use Rattle.desk.specs.Calls.{Opens, Accepts, Asks, Why, Room, held, saidOf, Ask
 use Rattle.desk.proofs.Unique.{one-why, one-ask-refusal}
 use Rattle.whole.specs.declared.Question.{Question}
 use Rattle.whole.specs.declared.Record.{Record}
-use Rattle.register.specs.Round.{Round, callOf, replyOf, bytesOf, Asked, Yes, total}
+use Rattle.register.specs.Round.{Round, callOf, total, Meaning}
+use Rattle.register.proofs.Laid.{replyOf, bytesOf, Asked}
 use Rattle.register.proofs.Sums.{weigh, spare, more}
 
 -- the desk has heard f
@@ -164,19 +165,19 @@ module _ (R : Round) (a : Asked R) where
         ∙ write-read 12 (replyOf R f) (formed f h) (fits-12 (replyOf R f) (formed f h))
 
     solves-all : ((f : ℕ) → f < many → Heard (d .question) f)
-        → (b : Bool) × (outcome (d .question .entries) (d .question .parts) (held (d .question) store) ≡ said b) × Says (Yes R) b
+        → (b : Bool) × (outcome (d .question .entries) (d .question .parts) (held (d .question) store) ≡ said b) × Says (Meaning R) b
     solves-all h =
         let es = listed (R .list) (R .text) in
         rw (w .entries-is, w .parts-is)
         (solves (HereIn (R .register) es) (LowerIn (R .register) es) (R .list .count) many (omega (arith, a .keeps .some-entry)) (omega (arith, a .cut .layout .some-part)) (held (d .question) store)
         (λ f k. (replyOf R f, holds f k (h f k), subst (λ n. Lawful (HereIn (R .register) es) (LowerIn (R .register) es) n many f (replyOf R f)) (listed-length (R .list) (R .text)) (depot-lawful (R .register) (a .cut) es (keeps-earlier (R .list) (R .text) (a .keeps)) (R .number) f k))))
 
-    pub answers : ((f : ℕ) → f < many → Heard (d .question) f) → (n x : ℕ) → Asks d store n x → (n ≡ 0) × (((x ≡ 2) × Yes R) ⊎ ((x ≡ 1) × (Yes R → ⊥)))
+    pub answers : ((f : ℕ) → f < many → Heard (d .question) f) → (n x : ℕ) → Asks d store n x → (n ≡ 0) × (((x ≡ 2) × Meaning R) ⊎ ((x ≡ 1) × (Meaning R → ⊥)))
     answers h n x k = (z, go (solves-all h .0) (k .answered z ∙ ap saidOf (solves-all h .1)) (solves-all h .2))
       where
         z : n ≡ 0
         z = one-ask-refusal d store n 0 (k .why) asks
 
-        go : (b : Bool) → x ≡ saidOf (said b) → Says (Yes R) b → ((x ≡ 2) × Yes R) ⊎ ((x ≡ 1) × (Yes R → ⊥))
+        go : (b : Bool) → x ≡ saidOf (said b) → Says (Meaning R) b → ((x ≡ 2) × Meaning R) ⊎ ((x ≡ 1) × (Meaning R → ⊥))
         go true e (aye y) = inl (e, y)
         go false e (nay y) = inr (e, y)

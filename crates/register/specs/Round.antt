@@ -1,17 +1,17 @@
--- One question put to a register cut by a layout: what each depot answers, and what the callers keep to.
-use Prim.Native.Nat.{ℕ, zero, suc, _+_, _-_, _^_, _≤_, _<_}
+-- One question put to a register cut by a layout: the depots' calls, what the callers keep to, and what the question means.
+use Prim.Native.Nat.{ℕ, zero, suc, _+_, _-_, _≤_, _<_}
 use mathlib.Core.Path.{_≡_}
 use mathlib.Core.List.{List, List·Memᴰ}
-use lib.ListN.{length}
+use lib.ListN.{length, take}
 use Rattle.meaning.specs.Bytes.{Bytes}
 use Rattle.meaning.specs.Entry.{EntryHolds}
 use Rattle.meaning.specs.Reply.{Reply}
-use Rattle.meaning.specs.Register.{Register, parts, Cut, joined}
+use Rattle.meaning.specs.Register.{Register, parts, joined}
 use Rattle.question.specs.declared.List as L
-use Rattle.question.specs.Listed.{Keeps, listed}
+use Rattle.question.specs.Listed.{listed}
 use Rattle.reply.specs.Read.{Is}
-use Rattle.depot.specs.Answer as Depot
-use Rattle.register.specs.Calls.{Event}
+use Rattle.depot.specs.Answer.{Call, call, Answered}
+use Rattle.register.specs.Calls.{Event, HandedIn}
 
 -- a register, a list over a text, and a question number
 pub record Round : Type 0 where
@@ -20,23 +20,32 @@ pub record Round : Type 0 where
   pub text : Bytes
   pub number : ℕ
 
--- the call of fragment f's depot, the reply laid down for it, and its bytes
-abbrev pub callOf : Round → ℕ → Depot.Call
-callOf R f = Depot.call (R .list) (R .text) (R .register .fragment f) f (R .number)
+-- the call of fragment f's depot
+abbrev pub callOf : Round → ℕ → Call
+callOf R f = call (R .list) (R .text) (R .register .fragment f) f (R .number)
 
-abbrev pub replyOf : Round → ℕ → Reply
-replyOf R f = Depot.laid (callOf R f)
+-- fragment f's depot was called, with any memory and buffer, and did not refuse
+pub record Replied (R : Round) (f : ℕ) : Type 0 where
+  pub work : List ℕ
+  pub out : Bytes
+  pub size : ℕ
+  pub work′ : List ℕ
+  pub out′ : Bytes
+  pub replying : Answered (callOf R f) work out 0 size work′ out′
 
-abbrev pub bytesOf : Round → ℕ → Bytes
-bytesOf R f = Depot.bytes (callOf R f)
+-- s is what such a call left in its buffer
+pub record SentBy (R : Round) (f : ℕ) (s : Bytes) : Type 0 where
+  pub called : Replied R f
+  pub is : s ≡ take (called .size) (called .out′)
 
--- no depot refuses, given memory and room enough
-pub record Asked (R : Round) : Type 0 where
-  pub cut : Cut (R .register)
-  pub keeps : Keeps (R .list) (R .text)
-  pub some-number : 0 < R .number
-  pub number-fits : R .number < 2 ^ 32
-  pub few-steps : (f : ℕ) → f < parts (R .register) → length (replyOf R f .steps) ≤ 4096
+-- fragment f's reply was handed in
+abbrev pub PartIn : Round → ℕ → List Event → Type 0
+PartIn R f l = (s : Bytes) × SentBy R f s × HandedIn s l
+
+-- every well-formed reply that bears the open number is what the depot of a part sent
+abbrev pub Honest : Round → List Event → Type 0
+Honest R l = (s : Bytes) (n : ℕ) → List·Memᴰ (Event.handed s n) l → (r : Reply) → Is 12 s r → r .number ≡ R .number
+    → (f : ℕ) × (f < parts (R .register)) × SentBy R f s
 
 -- f 0 + .. + f (n - 1)
 unfoldable pub total : (ℕ → ℕ) → ℕ → ℕ
@@ -44,14 +53,11 @@ total f zero = 0
 total f (suc n) = total f n + f n
 
 -- a store with room for one reply of each
-abbrev pub Roomy : Round → Bytes → Type 0
-Roomy R store = total (λ f. length (bytesOf R f)) (parts (R .register)) ≤ length store
-
--- every well-formed reply that bears the open number is the one laid down for its part
-abbrev pub Honest : Round → List Event → Type 0
-Honest R l = (s : Bytes) (n : ℕ) → List·Memᴰ (Event.handed s n) l → (r : Reply) → Is 12 s r → r .number ≡ R .number
-    → (r .fragment < parts (R .register)) × (r ≡ replyOf R (r .fragment))
+pub record Roomy (R : Round) (store : Bytes) : Type 0 where
+  pub size : ℕ → ℕ
+  pub each : (f : ℕ) → f < parts (R .register) → (s : Bytes) → SentBy R f s → length s ≤ size f
+  pub room : total size (parts (R .register)) ≤ length store
 
 -- what the list's last entry means at the top row of the joined register
-abbrev pub Yes : Round → Type 0
-Yes R = EntryHolds (joined (R .register)) (listed (R .list) (R .text)) (R .list .count - 1) (0, 0)
+abbrev pub Meaning : Round → Type 0
+Meaning R = EntryHolds (joined (R .register)) (listed (R .list) (R .text)) (R .list .count - 1) (0, 0)

@@ -9,10 +9,11 @@ use Rattle.meaning.specs.Bytes.{Bytes, ascii}
 use Rattle.meaning.specs.Holds.{Holds}
 use Rattle.meaning.specs.Bound.{Open, stepBound}
 use Rattle.meaning.specs.Fragment.{Fragment, Sound}
-use Rattle.meaning.specs.Register.{Register, rowsIn, joined}
+use Rattle.meaning.specs.Register.{Register, rowsIn, Cut, joined}
 use Rattle.meaning.specs.Promise.{NoStandIn}
 use Rattle.reader.specs.Packed.{placedEntries, packed}
-use Rattle.register.specs.Round.{Round, replyOf, Asked}
+use Rattle.depot.specs.Answer.{laid}
+use Rattle.register.specs.Round.{Round, callOf, Replied}
 use Rattle.register.specs.Promise.{Good}
 
 abbrev pub pool : Bytes
@@ -31,10 +32,10 @@ register = record { layout = 255 ∷ 0 ∷ 0 ∷ []; fragment = fragment }
 abbrev pub round : (text : Bytes) → Good text → Round
 round text good = record { register = register; list = packed (placedEntries (good .written .tree)); text = text; number = 1 }
 
--- the reader takes the text, condition 3 applies to it, and at the top row of the joined register it holds, or does not
+-- the reader takes the text, no depot refuses it, and at the top row of the joined register it holds, or does not
 pub record Case (text : Bytes) (answer : Bool) : Type 0 where
   pub good : Good text
-  pub asked : Asked (round text good)
+  pub replied : (f : ℕ) → f < 3 → Replied (round text good) f
   pub right : Says (Holds (joined register) (good .written .tree) (0, 0)) answer
 
 -- THE SINGLE TABLE
@@ -53,9 +54,10 @@ pub record Table : Type 0 where
   pub l : Case (ascii "site[lift/mark&lift/brake/text()=\"B17\"]") false
   -- a has 10 entries; m: for a, fragment 0 makes 21 steps, and the bound is 120
   pub a-entries : length (placedEntries (a .good .written .tree)) ≡ 10
-  pub m-steps : length (replyOf (round _ (a .good)) 0 .steps) ≡ 21
+  pub m-steps : length (laid (callOf (round _ (a .good)) 0) .steps) ≡ 21
   pub isOpen : ℕ → Bool
   pub tells : (k : ℕ) → k < 4 → Says (Open (rowsIn register 0) k) (isOpen k)
   pub m-bound : stepBound 10 (rowsIn register 0) isOpen ≡ 120
-  -- fragment 1 alone meets condition 2
+  -- the register is cut by its layout; fragment 1 alone meets condition 2
+  pub cut : Cut register
   pub one-box : Sound 0 (fragment 1) × NoStandIn (fragment 1)
