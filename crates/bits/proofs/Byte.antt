@@ -9,8 +9,9 @@ use lib.ListN.{length, take, drop, getD, set, length-append, length-set}
 use lib.Seq.{take-set-le, drop-set-lt, getD-set-same, lt-length-set, take-at, drop-at, split-at, length-take-le}
 use lib.Pow.{shr-lt, pow-pos, pow-add, shr-shr, split, high, low}
 use lib.Arith.{digits-lt}
-use Rattle.bits.specs.Bits.{digits, number, fields, bitsOf, bitsAt, fieldAt, Wrote}
-use Rattle.bits.proofs.Digits.{digits-length, number-digits, number-digits-lt, digits-add, digits-low, digits-same}
+use Rattle.bits.specs.Bits.{digits, number}
+use Rattle.bits.specs.Fields.{fields, bitsOf, bitsAt, fieldAt, Wrote}
+use Rattle.bits.proofs.Digits.{digits-length, number-digits-mod, number-digits, digits-add, digits-low, digits-same}
 
 -- where two joined lists are equal and their first parts as long, the parts are equal
 pub append-front : (x y xs ys : List Bool) → length x ≡ length xs → x ++ y ≡ xs ++ ys → x ≡ xs
@@ -39,7 +40,7 @@ fields-inj w (x ∷ s) [] e hs ht h = absurd (omega arith)
 fields-inj w (x ∷ s) (y ∷ t) e hs ht h =
     let l : length (digits w x) ≡ length (digits w y) = digits-length w x ∙ sym (digits-length w y) in
     ap₂ _∷_
-    (sym (number-digits-lt w x (hs 0)) ∙ ap number (append-front (digits w x) (fields w s) (digits w y) (fields w t) l h) ∙ number-digits-lt w y (ht 0))
+    (sym (number-digits w x (hs 0)) ∙ ap number (append-front (digits w x) (fields w s) (digits w y) (fields w t) l h) ∙ number-digits w y (ht 0))
     (fields-inj w s t (suc-inj e) (λ i. hs (suc i)) (λ i. ht (suc i)) (append-back (digits w x) (fields w s) (digits w y) (fields w t) l h))
 
 pub bitsOf-length : (s : List ℕ) → length (bitsOf s) ≡ 8 * length s
@@ -135,7 +136,7 @@ pub field-in-byte : (s : List ℕ) (at n z : ℕ) → at % 8 + (n + z) ≡ 8 →
     → getD s (at / 8) 0 / 2 ^ z % 2 ^ n ≡ fieldAt s at n
 unfolding fieldAt
 field-in-byte s at n z e h =
-    sym (number-digits n (getD s (at / 8) 0 / 2 ^ z))
+    sym (number-digits-mod n (getD s (at / 8) 0 / 2 ^ z))
     ∙ ap number (sym (bits-in-byte s (at / 8) (at % 8) n z e (omega arith)))
     ∙ ap (λ (p : ℕ). number (bitsAt s p n)) (div-add-mod at 8)
 

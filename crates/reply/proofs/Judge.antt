@@ -10,7 +10,7 @@ use native.Mathlib.Omega.{arith}
 use native.Mathlib.Decide.{ℕ-discrete}
 use lib.ListN.{length, getD, set, replicate, length-set}
 use lib.Seq.{getD-set-same, getD-set-other}
-use Rattle.bits.specs.Bits.{fieldAt}
+use Rattle.bits.specs.Fields.{fieldAt}
 use Rattle.bits.proofs.Laws.{field-lt, one-more}
 use Rattle.meaning.specs.Says.{Says}
 use Rattle.meaning.proofs.Says.{says-iff}

@@ -7,7 +7,7 @@ use mathlib.Core.Bool.{Bool, _&&_, cond}
 use mathlib.Core.Option.{Option, none, some}
 use lib.ListN.{length, getD}
 use Rattle.bits.specs.Bits.{bytesFor}
-use Rattle.bits.specs.Bits.{Octets}
+use Rattle.bits.specs.Fields.{Octets}
 use Rattle.bits.proofs.Packed.{bytesOf-length, bitsOf-bytesOf, bytes-are}
 use Rattle.meaning.specs.Says.{Says, aye, nay}
 use Rattle.meaning.specs.Bytes.{Bytes, sameBytes}

@@ -7,9 +7,9 @@ use native.Mathlib.Nat.{mul-le-mul}
 use native.Mathlib.Omega.{arith}
 use native.Mathlib.Decide.{decLt}
 use lib.ListN.{length, replicate}
-use Rattle.bits.specs.Bits.{Holds}
+use Rattle.bits.specs.Fields.{Octets}
+use Rattle.bits.specs.inner.Stand.{BitsStand}
 use Rattle.bits.proofs.Laws.{field-lt}
-use Rattle.bits.specs.Bits.{Octets}
 use Rattle.reply.specs.WellFormed.{vars}
 use Rattle.reply.specs.inner.Decode.{endOf, vTo, insOf, stepsOf, entriesOf, read}
 use Rattle.reply.specs.inner.Sound.{StepGood, RefGood, InGood, Sound, varsOf}
@@ -60,14 +60,14 @@ module _ (s : List ℕ) (h : Head) (H : HeadIs s h) where
   s-end : 60 + 5 * h .ins + 30 * h .steps + 28 * h .entries ≡ endOf 12 (insOf s) (stepsOf s) (entriesOf s)
   s-end = omega (arith, H .entries-is, H .ins-is, H .steps-is)
 
-  pub s-filled : Sound 12 s → Holds s (60 + 5 * h .ins + 30 * h .steps + 28 * h .entries) (8 * length s) (replicate (8 * length s - (60 + 5 * h .ins + 30 * h .steps + 28 * h .entries)) false)
+  pub s-filled : Sound 12 s → BitsStand s (60 + 5 * h .ins + 30 * h .steps + 28 * h .entries) (8 * length s) (replicate (8 * length s - (60 + 5 * h .ins + 30 * h .steps + 28 * h .entries)) false)
   s-filled q = rw s-end (q .filled)
 
   pub judged : 8 ≤ length s → (h .number ≡ 0 → ⊥) → h .steps ≤ 4096 → (60 + 5 * h .ins + 30 * h .steps + 28 * h .entries + 7) / 8 ≡ length s
       → ((i : ℕ) → i < h .ins → InGood s (h .fragment) i)
       → ((i : ℕ) → i < h .steps → StepGood 12 s (2 * h .entries * h .ins) i (60 + 5 * h .ins + 30 * i))
       → ((e : ℕ) → e < 2 * h .entries → RefGood 12 s (2 * h .entries * h .ins) (h .steps) (60 + 5 * h .ins + 30 * h .steps + 14 * e))
-      → Holds s (60 + 5 * h .ins + 30 * h .steps + 28 * h .entries) (8 * length s) (replicate (8 * length s - (60 + 5 * h .ins + 30 * h .steps + 28 * h .entries)) false)
+      → BitsStand s (60 + 5 * h .ins + 30 * h .steps + 28 * h .entries) (8 * length s) (replicate (8 * length s - (60 + 5 * h .ins + 30 * h .steps + 28 * h .entries)) false)
       → Sound 12 s
   judged long asked few size ins steps refs fill = record {
     head = omega arith;

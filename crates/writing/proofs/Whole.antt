@@ -5,9 +5,9 @@ use mathlib.Core.Path.{_≡_, refl, sym, _∙_}
 use mathlib.Core.Bool.{false}
 use mathlib.Core.List.{List, _++_, append-assoc}
 use lib.ListN.{length, replicate}
-use Rattle.bits.specs.Bits.{digits, Wrote}
+use Rattle.bits.specs.Bits.{digits}
+use Rattle.bits.specs.Fields.{Wrote, Octets}
 use Rattle.bits.proofs.Laws.{wrote-append}
-use Rattle.bits.specs.Bits.{Octets}
 use Rattle.bits.proofs.Packed.{bytesOf-length, written}
 use Rattle.meaning.specs.Reply.{Reply}
 use Rattle.reply.specs.Write.{refBits, stepBits, each, headBits, replyBits, write}

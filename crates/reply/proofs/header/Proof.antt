@@ -1,7 +1,7 @@
 -- `reply::header` meets its contract.
 use mathlib.Core.Path.{_≡_, refl}
 use native.Mathlib.Omega.{arith}
-use Rattle.bits.specs.Bits.{fieldAt}
+use Rattle.bits.specs.Fields.{fieldAt}
 use Rattle.reply.proofs.Judge.{head-of}
 use borrow.Author.Needs.{needs}
 use Rattle.reply.proofs.header.Statement.{statement}

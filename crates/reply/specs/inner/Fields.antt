@@ -4,7 +4,7 @@ use mathlib.Core.Path.{_≡_}
 use mathlib.Core.List.{_++_}
 use lib.ListN.{length, drop}
 use mathlib.Core.Option.{Option, none, some}
-use Rattle.bits.specs.Bits.{fieldAt}
+use Rattle.bits.specs.Fields.{fieldAt}
 use Rattle.meaning.specs.Bytes.{Bytes}
 use Rattle.meaning.specs.Reply.{Reply}
 use Rattle.reply.specs.Write.{write}

@@ -3,7 +3,8 @@ use Prim.Native.Nat.{ℕ, zero, suc, _+_, _-_, _*_, _≤_, _<_}
 use mathlib.Core.Path.{_≡_}
 use mathlib.Core.Bool.{false}
 use lib.ListN.{length, replicate}
-use Rattle.bits.specs.Bits.{fieldAt, Holds}
+use Rattle.bits.specs.Fields.{fieldAt}
+use Rattle.bits.specs.inner.Stand.{BitsStand}
 use Rattle.meaning.specs.Bytes.{Bytes}
 use Rattle.reply.specs.WellFormed.{vars}
 use Rattle.reply.specs.inner.Decode.{refWidth, stepWidth, insTo, stepsTo, vTo, endOf, numberOf, fragmentOf, entriesOf, insOf, stepsOf, inAt}
@@ -52,4 +53,4 @@ pub record Sound (w : ℕ) (s : Bytes) : Type 0 where
   pub steps-good : (i : ℕ) → i < stepsOf s → StepGood w s (varsOf s) i (insTo (insOf s) + stepWidth w * i)
   pub v-good : (e : ℕ) → e < entriesOf s → RefGood w s (varsOf s) (stepsOf s) (stepsTo w (insOf s) (stepsOf s) + refWidth w * e)
   pub d-good : (e : ℕ) → e < entriesOf s → RefGood w s (varsOf s) (stepsOf s) (vTo w (insOf s) (stepsOf s) (entriesOf s) + refWidth w * e)
-  pub filled : Holds s (endOf w (insOf s) (stepsOf s) (entriesOf s)) (8 * length s) (replicate (8 * length s - endOf w (insOf s) (stepsOf s) (entriesOf s)) false)
+  pub filled : BitsStand s (endOf w (insOf s) (stepsOf s) (entriesOf s)) (8 * length s) (replicate (8 * length s - endOf w (insOf s) (stepsOf s) (entriesOf s)) false)

@@ -3,7 +3,8 @@ use Prim.Native.Nat.{_+_, _-_, _/_, _%_, _^_, _≤_}
 use mathlib.Core.Path.{_≡_, refl}
 use native.Mathlib.Nat.{add-zero, add-assoc, sub-self, div-one}
 use native.Mathlib.Omega.{arith}
-use Rattle.bits.specs.Bits.{digits, Wrote}
+use Rattle.bits.specs.Bits.{digits}
+use Rattle.bits.specs.Fields.{Wrote}
 use Rattle.bits.proofs.Digits.{digits-more}
 use Rattle.bits.proofs.Laws.{wrote-none, wrote-append}
 use Rattle.bits.proofs.Cursor.put.Statement.{statement}

@@ -4,7 +4,8 @@ use mathlib.Core.Path.{_≡_, refl, sym}
 use native.Mathlib.Nat.{lt-of-lt-of-le}
 use native.Mathlib.Omega.{arith}
 use lib.Pow.{pow-mono}
-use Rattle.bits.specs.Bits.{fieldAt, bitsAt, number}
+use Rattle.bits.specs.Bits.{number}
+use Rattle.bits.specs.Fields.{fieldAt, bitsAt}
 use Rattle.bits.proofs.Laws.{field-lt, field-more}
 use Rattle.bits.proofs.Cursor.take.Statement.{statement}
 use Rattle.bits.proofs.Cursor.take.Tie as tie
