@@ -158,7 +158,7 @@ module _ (x n z c : ℕ) where
   old-le = omega (arith, whole)
 
   module _ (a : ℕ) (e : a + (n + z) ≡ 8) (hx : x < 256) (hc : c < 2 ^ n) where
-    pub patched-lt : patched x n z c < 256
+    patched-lt : patched x n z c < 256
     unfolding patched
     patched-lt =
         let q : x / 2 ^ (n + z) < 2 ^ a = shr-lt a (n + z) (rw e hx) in
@@ -166,12 +166,18 @@ module _ (x n z c : ℕ) where
         let p : 2 ^ a * 2 ^ n * 2 ^ z ≡ 256 = mul-assoc (2 ^ a) (2 ^ n) (2 ^ z) ∙ rw (← pow-add 2 n z, ← pow-add 2 a (n + z), e) refl in
         rw p at r
 
-    -- in a word of any width that holds a byte
-    pub patch-code : (m : ℕ) → 256 ≤ m → x - (x / 2 ^ z % 2 ^ n * 2 ^ z) % m + (c * 2 ^ z) % m ≡ patched x n z c
-    patch-code m hm =
-        rw (mod-eq-of-lt {n = x / 2 ^ z % 2 ^ n * 2 ^ z} {m = m} (omega (arith, old-le)), mod-eq-of-lt {n = c * 2 ^ z} {m = m} (omega (arith, patch, patched-lt)))
+    patch-code : x - (x / 2 ^ z % 2 ^ n * 2 ^ z) % 256 + (c * 2 ^ z) % 256 ≡ patched x n z c
+    patch-code =
+        rw (mod-eq-of-lt {n = x / 2 ^ z % 2 ^ n * 2 ^ z} {m = 256} (omega (arith, old-le)), mod-eq-of-lt {n = c * 2 ^ z} {m = 256} (omega (arith, patch, patched-lt)))
         (omega (arith, whole, patch))
 
-pub wrote-at : (s : List ℕ) (at n z c : ℕ) → at % 8 + (n + z) ≡ 8 → at < 8 * length s → c < 2 ^ n
-    → Wrote s (set s (at / 8) (patched (getD s (at / 8) 0) n z c)) at (at + n) (digits n c)
-wrote-at s at n z c e h l = rw (div-add-mod at 8) at (wrote-in-byte s (at / 8) (at % 8) n z c e (omega arith) l)
+    -- what the code makes of the byte x, taking o away and putting c in its place
+    pub code-fits : (o : ℕ) → o ≡ x / 2 ^ z % 2 ^ n → x - (o * 2 ^ z) % 256 + (c * 2 ^ z) % 256 < 256
+    code-fits o eo = rw (eo, patch-code) patched-lt
+
+pub wrote-at : (s : List ℕ) (at n z c o d : ℕ) → at % 8 + (n + z) ≡ 8 → at < 8 * length s → getD s (at / 8) 0 < 256 → c < 2 ^ n
+    → o ≡ getD s (at / 8) 0 / 2 ^ z % 2 ^ n → d ≡ c
+    → Wrote s (set s (at / 8) (getD s (at / 8) 0 - (o * 2 ^ z) % 256 + (d * 2 ^ z) % 256)) at (at + n) (digits n c)
+wrote-at s at n z c o d e h hx l eo ed =
+    rw (eo, ed, patch-code (getD s (at / 8) 0) n z c (at % 8) e hx l)
+    (rw (div-add-mod at 8) at (wrote-in-byte s (at / 8) (at % 8) n z c e (omega arith) l))

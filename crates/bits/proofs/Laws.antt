@@ -1,7 +1,7 @@
 -- How writes and reads of runs of bits compose; thousands of fields go by these laws alone.
 use mathlib.Core.Path.{_≡_, refl, sym, ap, _∙_}
-use Prim.Native.Nat.{ℕ, _+_, _-_, _*_, _^_, _≤_, _<_}
-use native.Mathlib.Nat.{mul-suc, mul-le-mul-left}
+use Prim.Native.Nat.{ℕ, _+_, _-_, _*_, _/_, _%_, _^_, _≤_, _<_}
+use native.Mathlib.Nat.{add-assoc, mul-suc, mul-le-mul-left}
 use native.Mathlib.Omega.{arith}
 use mathlib.Core.Bool.{Bool, false}
 use mathlib.Core.List.{List, [], _++_, append-assoc}
@@ -12,7 +12,7 @@ use Rattle.bits.specs.Bits.{digits, number}
 use Rattle.bits.specs.Fields.{bitsOf, bitsAt, fieldAt, Wrote}
 use Rattle.bits.specs.inner.Stand.{BitsStand}
 use Rattle.bits.specs.Promise.{TakePut}
-use Rattle.bits.proofs.Digits.{digits-length, number-lt, number-append, number-digits, digits-number-at, zeros-more}
+use Rattle.bits.proofs.Digits.{digits-length, number-lt, number-append, number-digits, digits-number-at, digits-more, zeros-more}
 use Rattle.bits.proofs.Byte.{append-front, append-back, bitsOf-length}
 
 -- ---- how writes compose
@@ -52,6 +52,12 @@ wrote-append {s} {t} {u} {a} {b} {c} {xs} {ys} p q =
       bits = q .bits ∙ rw (wrote-front p, wrote-later p c (omega (arith, q .end))) (simp append-assoc);
     }
 
+-- one bit more of the w bits of v is written; k is how far the code shifts v for it
+pub put-more : {s t u : List ℕ} (at i w v k : ℕ) → i < w → Wrote s t at (at + i) (digits i (v / 2 ^ (w - i)))
+    → Wrote t u (at + i) (at + i + 1) (digits 1 (v / 2 ^ k % 2)) → k ≡ w - (i + 1)
+    → Wrote s u at (at + (i + 1)) (digits (i + 1) (v / 2 ^ (w - (i + 1))))
+put-more at i w v k h p q e = rw (← add-assoc at i 1, digits-more w i 1 v (omega arith)) (wrote-append p (rw e at q))
+
 -- ---- reading
 
 pub bitsAt-length : (s : List ℕ) (at w : ℕ) → at + w ≤ 8 * length s → length (bitsAt s at w) ≡ w
@@ -75,6 +81,14 @@ digits-field s at w h = digits-number-at w (bitsAt s at w) (bitsAt-length s at w
 pub field-more : (s : List ℕ) (at i n : ℕ) → at + (i + n) ≤ 8 * length s → fieldAt s at (i + n) ≡ fieldAt s at i * 2 ^ n + fieldAt s (at + i) n
 unfolding fieldAt
 field-more s at i n h = rw (bitsAt-add s at i n, number-append (bitsAt s at i) (bitsAt s (at + i) n), bitsAt-length s (at + i) n (omega arith)) refl
+
+-- as the code has it: p is the place of the next bit b
+pub field-next : (s : List ℕ) (at i p v b : ℕ) → at + (i + 1) ≤ 8 * length s → v ≡ fieldAt s at i → b ≡ fieldAt s p 1 → p ≡ at + i
+    → v * 2 + b ≡ fieldAt s at (i + 1)
+field-next s at i p v b h ev eb ep = rw (ev, eb, ep) (sym (field-more s at i 1 h))
+
+pub bit-lt : (s : List ℕ) (p b : ℕ) → b ≡ fieldAt s p 1 → p + 1 ≤ 8 * length s → b < 2
+bit-lt s p b e h = rw e (field-lt s p 1 h)
 
 -- a field that was read stands there, and what stands there is what is read
 pub field-stand : (s : List ℕ) (at w : ℕ) → at + w ≤ 8 * length s → BitsStand s at (at + w) (digits w (fieldAt s at w))
