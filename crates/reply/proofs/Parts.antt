@@ -14,10 +14,10 @@ use Rattle.meaning.specs.Reply.{Reply}
 use Rattle.reply.specs.Write.{refBits, stepBits, each, headBits, replyBits}
 use Rattle.reply.specs.WellFormed.{vars, Result, WellFormed, Fits}
 use Rattle.reply.specs.inner.Decode.{refWidth, stepWidth, refAt, stepAt, insTo, stepsTo, vTo, endOf, inAt, insOf, stepsOf, entriesOf, fragmentOf, numberOf, decoded}
-use Rattle.reply.specs.inner.Sound.{RefGood, StepGood, Sound}
+use Rattle.reply.specs.inner.Checked.{RefGood, StepGood, Checked}
 use Rattle.reply.proofs.Lists.{tab-is, each-length, each-at}
 use Rattle.reply.proofs.Fields.{ref-length, ref-out, step-length, step-out}
-use Rattle.reply.proofs.Sound.{Writes}
+use Rattle.reply.proofs.Checked.{Writes}
 
 pub record Parts (w : ℕ) (s : List ℕ) (r : Reply) : Type 0 where
   pub number-at : BitsStand s 0 32 (digits 32 (r .number))
@@ -159,8 +159,8 @@ module _ (w : ℕ) (s : List ℕ) (r : Reply) (g : WellFormed r) (x : Fits w r) 
       (rw (ins-read, steps-read, entries-read) (tab-is (λ e. refAt w s (stepsTo w (length (r .ins)) (length (r .steps)) + refWidth w * e)) Ref.low (r .v) (r .entries) (g .v-all) (λ e l. sym (v-read e l .1))))
       (rw (ins-read, steps-read, entries-read) (tab-is (λ e. refAt w s (vTo w (length (r .ins)) (length (r .steps)) (r .entries) + refWidth w * e)) Ref.low (r .d) (r .entries) (g .d-all) (λ e l. sym (d-read e l .1))))
 
-  pub is-sound : Sound w s
-  is-sound = record {
+  pub is-checked : Checked w s
+  is-checked = record {
     head = p .steps-count .room;
     asked = rw number-read (g .asked);
     few = rw steps-read (g .few-steps);

@@ -1,8 +1,7 @@
 -- A reply and its bytes, worked by hand from 01: two entries, one stand-in, so variables 0 to 3; and, then not of it.
-use Prim.Native.Nat.{ℕ}
 use mathlib.Core.Path.{_≡_, refl}
 use mathlib.Core.Option.{none, some}
-use mathlib.Core.List.{List, [], _∷_}
+use mathlib.Core.List.{[], _∷_}
 use Rattle.bits.specs.Bits.{bit, worth, digits, number, eights, bytesOf}
 use Rattle.bits.specs.Fields.{fields, bitsOf, bitsAt, fieldAt}
 use Rattle.meaning.specs.Bytes.{Bytes, sameBytes}

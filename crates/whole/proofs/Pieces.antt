@@ -17,7 +17,7 @@ use Rattle.reply.specs.Read.{Is}
 use Rattle.reply.specs.inner.Decode.{inAt, read}
 use Rattle.reply.specs.inner.Fields.{HeadIs, verdict}
 use Rattle.reply.specs.declared.Head.{Head}
-use Rattle.reply.proofs.Round.{Fields, fields-of, check-reply, check-none, is-the, sound-of}
+use Rattle.reply.proofs.Round.{Fields, fields-of, check-reply, check-none, is-the, checked-of}
 use Rattle.meaning.specs.Refused.{refused, passed, granted}
 use Rattle.whole.specs.Whole.{layoutOf, Rules, Shaped, Free, Heard, placeOf, sizeOf, partOf, Own, Laid, Opened, Whole, closed, opened}
 use Rattle.whole.specs.inner.Steps.{StandsFor, Judged, Starts, PartOk, FragmentOk}
@@ -122,7 +122,7 @@ pub part-is : (q : Question) (store : Bytes) (f p n : ℕ) → p ≡ placeOf q f
 part-is q store f p n ep en = let e : p + n - p ≡ n = omega arith in rw (e, ep, en) refl
 
 pub long-enough : {q : Question} {s : Bytes} {c : ℕ} → Judged q s c → c ≡ 0 → 8 ≤ length s
-long-enough {q} {s} j e = let t = judged-free j e in omega (arith, sound-of 12 s (t .0) (t .1 .is) .head)
+long-enough {q} {s} j e = let t = judged-free j e in omega (arith, checked-of 12 s (t .0) (t .1 .is) .head)
 
 part-good : (q : Question) (used : ℕ) (store : Bytes) (f c : ℕ) (h : Head) {b : Bool} → Judged q (partOf q store f) c → c ≡ 0 → HeadIs (partOf q store f) h
     → placeOf q f + sizeOf q f ≤ used → Says (h .fragment ≡ f) b → Says (PartOk q used store f) b
@@ -152,7 +152,7 @@ rules-says q L e few one most k =
 -- ---- the whole store
 some-size : (q : Question) (store : Bytes) (f : ℕ) → Own q store f → 0 < sizeOf q f
 some-size q store f o =
-    let h = sound-of 12 (partOf q store f) (o .reply) (o .free .is) in
+    let h = checked-of 12 (partOf q store f) (o .reply) (o .free .is) in
     omega (arith, h .head, length-take (sizeOf q f) (drop (placeOf q f) store), min-le-left (sizeOf q f) (length (drop (placeOf q f) store)))
 
 module _ (q : Question) (used : ℕ) (store : Bytes) where

@@ -1,5 +1,5 @@
 -- `bits::Cursor::take` meets its contract. The invariant: `value` is the number of the first i bits of the field.
-use Prim.Native.Nat.{_+_, _-_, _^_, _≤_, _<_}
+use Prim.Native.Nat.{_-_, _^_, _≤_, _<_}
 use mathlib.Core.Path.{_≡_, refl}
 use native.Mathlib.Nat.{lt-of-lt-of-le}
 use native.Mathlib.Omega.{arith}

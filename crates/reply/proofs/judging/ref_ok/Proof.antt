@@ -1,6 +1,6 @@
--- `reply::check::ref_ok` meets its contract.
+-- `reply::judging::ref_ok` meets its contract.
 use native.Mathlib.Omega.{arith}
-use Rattle.reply.specs.inner.Sound.{RefOk}
+use Rattle.reply.specs.inner.Checked.{RefOk}
 use Rattle.reply.proofs.Tests.{says-lt, says-eq}
 use Rattle.reply.proofs.Judge.{ref-const}
 use Rattle.reply.proofs.judging.ref_ok.Statement.{statement}

@@ -14,7 +14,7 @@ use Rattle.meaning.specs.Reply.{Reply, tabulated}
 use Rattle.reply.specs.Write.{refBits, stepBits, headBits, replyBits}
 use Rattle.reply.specs.WellFormed.{Result, Operands, WellFormed}
 use Rattle.reply.specs.inner.Decode.{refWidth, stepWidth, refAt, stepAt, insTo, stepsTo, vTo, endOf, inAt, insOf, stepsOf, entriesOf, decoded}
-use Rattle.reply.specs.inner.Sound.{RefGood, varsOf, Sound}
+use Rattle.reply.specs.inner.Checked.{RefGood, varsOf, Checked}
 use Rattle.reply.proofs.Lists.{tab-length, tab-at, at-each}
 use Rattle.reply.proofs.Fields.{ref-in, step-in}
 
@@ -46,7 +46,7 @@ module _ (w : ℕ) (s : List ℕ) where
   abbrev pub dG : ℕ → Ref
   dG e = refAt w s (vTo w (insOf s) (stepsOf s) (entriesOf s) + refWidth w * e)
 
-module _ (w : ℕ) (s : List ℕ) (h : Sound w s) where
+module _ (w : ℕ) (s : List ℕ) (h : Checked w s) where
   room : (insTo (insOf s) ≤ 8 * length s) × (stepsTo w (insOf s) (stepsOf s) ≤ 8 * length s) × (vTo w (insOf s) (stepsOf s) (entriesOf s) ≤ 8 * length s)
   room = ends w (insOf s) (stepsOf s) (entriesOf s) (8 * length s) (h .room)
 
@@ -59,9 +59,9 @@ module _ (w : ℕ) (s : List ℕ) (h : Sound w s) where
       × Result (varsOf s) (stepsOf s) (refAt w s (a + refWidth w * e))
   ref-here a e l r g = ref-in w (varsOf s) (stepsOf s) s (a + refWidth w * e) (inside (refWidth w) a e (entriesOf s) (8 * length s) l r) g
 
-  pub sound-formed : WellFormed (decoded w s)
+  pub checked-formed : WellFormed (decoded w s)
   unfolding decoded
-  sound-formed =
+  checked-formed =
       let li : length (tabulated (insOf s) 0 (inAt s)) ≡ insOf s = tab-length (insOf s) 0 (inAt s) in
       let ls : length (tabulated (stepsOf s) 0 (stepG w s)) ≡ stepsOf s = tab-length (stepsOf s) 0 (stepG w s) in
       record {
@@ -98,9 +98,9 @@ module _ (w : ℕ) (s : List ℕ) (h : Sound w s) where
       let f5 : BitsStand s 47 60 (digits 13 (fieldAt s 47 13)) = field-stand s 47 13 (h .head) in
       rw e1 (stand-append f1 (stand-append f2 (stand-append f3 (stand-append f4 f5))))
 
-  pub sound-writes : Writes w (decoded w s) s
+  pub checked-writes : Writes w (decoded w s) s
   unfolding decoded replyBits
-  sound-writes = record {
+  checked-writes = record {
     filling = 8 * length s - endOf w (insOf s) (stepsOf s) (entriesOf s);
     less = omega (arith, h .room, h .close);
     bits =

@@ -1,4 +1,4 @@
--- What the check tests, on the numbers read at a place; and `Sound`, all of it together. Inner functions' contracts cite these.
+-- What the check tests, on the numbers read at a place; and `Checked`, all of it together. Inner functions' contracts cite these.
 use Prim.Native.Nat.{ℕ, zero, suc, _+_, _-_, _*_, _≤_, _<_}
 use mathlib.Core.Path.{_≡_}
 use mathlib.Core.Bool.{false}
@@ -43,7 +43,7 @@ pub record InGood (s : Bytes) (f i : ℕ) : Type 0 where
 abbrev pub varsOf : Bytes → ℕ
 varsOf s = vars (entriesOf s) (insOf s)
 
-pub record Sound (w : ℕ) (s : Bytes) : Type 0 where
+pub record Checked (w : ℕ) (s : Bytes) : Type 0 where
   pub head : 60 ≤ 8 * length s
   pub asked : 0 < numberOf s
   pub few : stepsOf s ≤ 4096
