@@ -2,7 +2,6 @@
 use Prim.Native.Nat.{ℕ, _+_, _-_, _≤_, _<_}
 use mathlib.Core.Path.{_≡_, refl, sym, ap, _∙_, subst}
 use mathlib.Core.Bool.{Bool}
-use mathlib.Core.Option.{Option, none, some}
 use mathlib.Core.List.{List, List·Memᴰ}
 use mathlib.Core.Logic.{_⊎_, ⊎-elim, _≢_}
 use native.Mathlib.Omega.{arith}
@@ -13,11 +12,11 @@ use Rattle.meaning.specs.Bytes.{Bytes}
 use Rattle.meaning.specs.Reply.{Reply}
 use Rattle.meaning.specs.Register.{parentOf, Layout, childrenOf}
 use Rattle.meaning.proofs.Says.{says-iff}
-use Rattle.reply.specs.Read.{Is}
-use Rattle.reply.specs.inner.Decode.{inAt, read}
-use Rattle.reply.specs.inner.Fields.{HeadIs, verdict}
+use Rattle.reply.specs.Read.{Is, Checks}
+use Rattle.reply.specs.inner.Decode.{inAt}
+use Rattle.reply.specs.inner.Fields.{HeadIs}
 use Rattle.reply.specs.declared.Head.{Head}
-use Rattle.reply.proofs.Round.{Fields, fields-of, check-reply, check-none, is-the, checked-of}
+use Rattle.reply.proofs.Round.{Fields, fields-of, is-the, checked-of}
 use Rattle.meaning.specs.Refused.{refused, passed, granted}
 use Rattle.whole.specs.Whole.{layoutOf, Rules, Shaped, Free, Heard, placeOf, sizeOf, partOf, Own, Laid, Opened, Whole, closed, opened}
 use Rattle.whole.specs.inner.Steps.{StandsFor, Judged, Starts, PartOk, FragmentOk}
@@ -31,15 +30,13 @@ use Rattle.whole.proofs.Children.{mem-place, place-mem, child-has, has-
 pub one-of : (s : Bytes) (r t : Reply) → Is 12 s r → Is 12 s t → r ≡ t
 one-of s r t a b = is-the 12 s r a ∙ sym (is-the 12 s t b)
 
-pub passed-check : {s : Bytes} {c : ℕ} → c ≡ verdict (read 12 s) → c ≡ 0 → (r : Reply) × Is 12 s r
-passed-check {s} v e = check-reply s (sym e ∙ v)
+pub passed-check : {s : Bytes} {c : ℕ} → Checks s c → c ≡ 0 → (r : Reply) × Is 12 s r
+passed-check (refused h) e = absurd (omega arith)
+passed-check (passed t granted) e = t
 
-pub failed-check : {q : Question} {s : Bytes} {c : ℕ} → c ≡ verdict (read 12 s) → c ≢ 0 → Judged q s 13
-failed-check {q} {s} {c} v n = go (read 12 s) refl
-  where
-    go : (o : Option Reply) → read 12 s ≡ o → Judged q s 13
-    go none e = refused (λ t. check-none s (sym (ap verdict e)) (t .0) (t .1))
-    go (some r) e = absurd (n (v ∙ ap verdict e))
+pub failed-check : {q : Question} {s : Bytes} {c : ℕ} → Checks s c → c ≢ 0 → Judged q s 13
+failed-check (refused h) n = refused h
+failed-check (passed t granted) n = absurd (n refl)
 
 module _ (q : Question) (s : Bytes) (r : Reply) (i : Is 12 s r) (h : Head) (H : HeadIs s h) where
   f : Fields 12 s r
