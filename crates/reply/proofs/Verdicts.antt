@@ -62,16 +62,16 @@ module _ (s : List ℕ) (h : Head) (H : HeadIs s h) where
   s-end : 60 + 5 * h .ins + 30 * h .steps + 28 * h .entries ≡ endOf 12 (insOf s) (stepsOf s) (entriesOf s)
   s-end = omega (arith, H .entries-is, H .ins-is, H .steps-is)
 
-  pub s-filled : Checked 12 s → BitsStand s (60 + 5 * h .ins + 30 * h .steps + 28 * h .entries) (8 * length s) (replicate (8 * length s - (60 + 5 * h .ins + 30 * h .steps + 28 * h .entries)) false)
-  s-filled q = rw s-end (q .filled)
+  pub s-filled : (to : ℕ) → to ≡ 8 * length s → Checked 12 s → BitsStand s (60 + 5 * h .ins + 30 * h .steps + 28 * h .entries) to (replicate (to - (60 + 5 * h .ins + 30 * h .steps + 28 * h .entries)) false)
+  s-filled to e q = rw (e, s-end) (q .filled)
 
-  pub all-checked : 8 ≤ length s → (h .number ≡ 0 → ⊥) → h .steps ≤ 4096 → (60 + 5 * h .ins + 30 * h .steps + 28 * h .entries + 7) / 8 ≡ length s
+  pub all-checked : (to : ℕ) → 8 ≤ length s → (h .number ≡ 0 → ⊥) → h .steps ≤ 4096 → (60 + 5 * h .ins + 30 * h .steps + 28 * h .entries + 7) / 8 ≡ length s
       → ((i : ℕ) → i < h .ins → InGood s (h .fragment) i)
       → ((i : ℕ) → i < h .steps → StepGood 12 s (2 * h .entries * h .ins) i (60 + 5 * h .ins + 30 * i))
       → ((e : ℕ) → e < 2 * h .entries → RefGood 12 s (2 * h .entries * h .ins) (h .steps) (60 + 5 * h .ins + 30 * h .steps + 14 * e))
-      → BitsStand s (60 + 5 * h .ins + 30 * h .steps + 28 * h .entries) (8 * length s) (replicate (8 * length s - (60 + 5 * h .ins + 30 * h .steps + 28 * h .entries)) false)
+      → BitsStand s (60 + 5 * h .ins + 30 * h .steps + 28 * h .entries) to (replicate (to - (60 + 5 * h .ins + 30 * h .steps + 28 * h .entries)) false) → to ≡ 8 * length s
       → Checked 12 s
-  all-checked long asked few size ins steps refs fill = record {
+  all-checked to long asked few size ins steps refs fill e = record {
     head = omega arith;
     asked = omega (arith, asked, H .number-is);
     few = omega (arith, H .steps-is);
@@ -83,5 +83,5 @@ module _ (s : List ℕ) (h : Head) (H : HeadIs s h) where
     d-good = λ e l.
         let z : 60 + 5 * h .ins + 30 * h .steps + 14 * (h .entries + e) ≡ vTo 12 (insOf s) (stepsOf s) (entriesOf s) + 14 * e = omega (arith, H .entries-is, H .ins-is, H .steps-is) in
         rw (z, ← vars-are, H .steps-is) at (refs (h .entries + e) (omega (arith, H .entries-is)));
-    filled = rw s-end at fill;
+    filled = rw (e, s-end) at fill;
   }

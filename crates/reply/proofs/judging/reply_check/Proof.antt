@@ -87,10 +87,10 @@ returns-9 : tie.Need-returns-9
 returns-9 c =
     let s = c .before .before .before .before .before .before .before .before .before .before .before .before .before .before .before .before .args .bytes .now in
     good _ (λ i. c .before .before .before .before .before .before .before .before .before .before .before .before .before .before .before .shared-slice-known .given i .fits)
-    (all-checked s (c .before .before .before .before .before .before .before .before .before .before .before .before .header .result) (c .before .before .before .before .before .before .before .before .before .before .before .before .header .ensures) (c .before .before .before .before .before .before .before .before .before .before .before .before .before .before .if1 .left) (c .before .before .before .before .before .before .before .before .before .before .if3 .left) (c .before .before .before .before .before .before .before .before .before .if4 .left) (c .before .before .before .before .before .before .before .before .if5 .left) (says-yes (c .before .before .before .before .before .before .before .ins-ok .ensures) (c .before .before .before .before .before .before .if6 .left)) (says-yes (c .before .before .before .before .before .steps-ok .ensures) (c .before .before .before .before .if7 .left)) (says-yes (c .before .before .before .refs-ok .ensures) (c .before .before .if8 .left)) (c .before .blank .ensures .0 (c .if9 .taken)))
+    (all-checked s (c .before .before .before .before .before .before .before .before .before .before .before .before .header .result) (c .before .before .before .before .before .before .before .before .before .before .before .before .header .ensures) _ (c .before .before .before .before .before .before .before .before .before .before .before .before .before .before .if1 .left) (c .before .before .before .before .before .before .before .before .before .before .if3 .left) (c .before .before .before .before .before .before .before .before .before .if4 .left) (c .before .before .before .before .before .before .before .before .if5 .left) (says-yes (c .before .before .before .before .before .before .before .ins-ok .ensures) (c .before .before .before .before .before .before .if6 .left)) (says-yes (c .before .before .before .before .before .steps-ok .ensures) (c .before .before .before .before .if7 .left)) (says-yes (c .before .before .before .refs-ok .ensures) (c .before .before .if8 .left)) (c .before .blank .ensures .0 (c .if9 .taken)) (omega arith))
 
 returns-10 : tie.Need-returns-10
-returns-10 c = bad _ (λ q. let z = c .before .blank .ensures .1 (s-filled (c .before .before .before .before .before .before .before .before .before .before .before .before .before .before .before .before .args .bytes .now) (c .before .before .before .before .before .before .before .before .before .before .before .before .header .result) (c .before .before .before .before .before .before .before .before .before .before .before .before .header .ensures) q) in let y : _≡_ {A = ℕ} 0 1 = cc (z, c .if9 .left) in omega arith)
+returns-10 c = bad _ (λ q. let z = c .before .blank .ensures .1 (s-filled (c .before .before .before .before .before .before .before .before .before .before .before .before .before .before .before .before .args .bytes .now) (c .before .before .before .before .before .before .before .before .before .before .before .before .header .result) (c .before .before .before .before .before .before .before .before .before .before .before .before .header .ensures) _ (omega arith) q) in let y : _≡_ {A = ℕ} 0 1 = cc (z, c .if9 .left) in omega arith)
 
 pub reply-check-spec : {M : Type 1} → statement M
 reply-check-spec =
