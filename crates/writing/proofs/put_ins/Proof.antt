@@ -1,4 +1,4 @@
--- `reply::writing::put_ins` meets its contract.
+-- `writing::put_ins` meets its contract.
 use Prim.Native.Nat.{_+_, _-_, _*_, _≤_, _<_}
 use mathlib.Core.Path.{_≡_}
 use native.Mathlib.Omega.{arith}
