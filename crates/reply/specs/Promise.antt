@@ -1,4 +1,4 @@
--- WHAT IS PROVED OF THESE DEFINITIONS: each promise is a type, and proofs/ has an element of it under its name (`round-trip` of `RoundTrip`).
+-- WHAT IS PROVED OF THESE DEFINITIONS: each promise is a type, and proofs/ has its element under its name (`round-trip` of `RoundTrip`).
 use Prim.Native.Nat.{ℕ, _≤_}
 use mathlib.Core.Path.{_≡_}
 use mathlib.Core.Option.{Option, some}
@@ -9,7 +9,8 @@ use Rattle.reply.specs.Write.{write}
 use Rattle.reply.specs.WellFormed.{WellFormed, Fits}
 use Rattle.reply.specs.Read.{Is, Checks}
 
--- there is a function that reads: a reply turned to bytes reads back as the same reply, and bytes that are read write back as the same bytes
+-- there is a function that reads: a reply turned to bytes reads back as the same reply,
+-- and bytes that are read write back as the same bytes
 pub record Reading (w : ℕ) : Type 0 where
   pub read : Bytes → Option Reply
   pub back : (r : Reply) → WellFormed r → Fits w r → read (write w r) ≡ some r
