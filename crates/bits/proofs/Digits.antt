@@ -58,10 +58,10 @@ number-append (x ∷ a) b =
     (rw (add-mul (worth x * 2 ^ length a) (number a) (2 ^ length b), mul-assoc (worth x) (2 ^ length a) (2 ^ length b))
     (omega arith))
 
-pub number-digits : (w v : ℕ) → number (digits w v) ≡ v % 2 ^ w
+pub number-digits-mod : (w v : ℕ) → number (digits w v) ≡ v % 2 ^ w
 unfolding number digits
-number-digits zero v = sym (mod-one v)
-number-digits (suc w) v = rw (digits-length w v, worth-bit (v / 2 ^ w), number-digits w v) (sym (mod-pow-add v 1 w) ∙ rw one-add)
+number-digits-mod zero v = sym (mod-one v)
+number-digits-mod (suc w) v = rw (digits-length w v, worth-bit (v / 2 ^ w), number-digits-mod w v) (sym (mod-pow-add v 1 w) ∙ rw one-add)
 
 -- only the w lowest bits of a number count
 pub digits-low : (w h l : ℕ) → digits w (h * 2 ^ w + l) ≡ digits w l
@@ -88,8 +88,8 @@ digits-add zero b v = rw zero-add
 digits-add (suc a) b v = rw (suc-add, digits-add a b v, shr-shr, add-comm b a)
 
 -- taking back what was put, and putting back what was taken
-pub number-digits-lt : NumberDigits
-number-digits-lt w v h = number-digits w v ∙ mod-eq-of-lt h
+pub number-digits : NumberDigits
+number-digits w v h = number-digits-mod w v ∙ mod-eq-of-lt h
 
 pub digits-number-at : (w : ℕ) (bs : List Bool) → length bs ≡ w → digits w (number bs) ≡ bs
 digits-number-at w bs e = rw (← e) (digits-number bs)

@@ -7,28 +7,29 @@ use mathlib.Core.Bool.{Bool, false}
 use mathlib.Core.List.{List, [], _∷_, _++_}
 use lib.ListN.{length, take, drop, replicate, length-append, length-drop, length-replicate, take-append-drop}
 use lib.Seq.{length-take-le, getD-drop, drop-at}
-use Rattle.bits.specs.Bits.{Octets, fields, bitsOf, packed, bytesFor, bytesOf, Wrote}
+use Rattle.bits.specs.Bits.{eights, bytesFor, bytesOf}
+use Rattle.bits.specs.Fields.{Octets, fields, bitsOf, Wrote}
 use Rattle.bits.specs.Promise.{OneWrite, Packs, OnePack}
 use Rattle.bits.proofs.Digits.{number-lt, digits-number-at}
 use Rattle.bits.proofs.Byte.{bitsOf-length, bitsOf-append, bitsOf-inj}
 
-pub packed-length : (n : ℕ) (bs : List Bool) → length (packed n bs) ≡ n
-unfolding packed
-packed-length zero bs = refl
-packed-length (suc n) bs = ap suc (packed-length n (drop 8 bs))
+pub eights-length : (n : ℕ) (bs : List Bool) → length (eights n bs) ≡ n
+unfolding eights
+eights-length zero bs = refl
+eights-length (suc n) bs = ap suc (eights-length n (drop 8 bs))
 
-pub packed-octets : (n : ℕ) (bs : List Bool) → length bs ≡ 8 * n → Octets (packed n bs)
-unfolding packed
-packed-octets zero bs e i = omega arith
-packed-octets (suc n) bs e zero = rw (length-take-le 8 bs (omega (arith, mul-suc 8 n))) at (number-lt (take 8 bs))
-packed-octets (suc n) bs e (suc i) = packed-octets n (drop 8 bs) (rw length-drop (omega (arith, mul-suc 8 n))) i
+pub eights-octets : (n : ℕ) (bs : List Bool) → length bs ≡ 8 * n → Octets (eights n bs)
+unfolding eights
+eights-octets zero bs e i = omega arith
+eights-octets (suc n) bs e zero = rw (length-take-le 8 bs (omega (arith, mul-suc 8 n))) at (number-lt (take 8 bs))
+eights-octets (suc n) bs e (suc i) = eights-octets n (drop 8 bs) (rw length-drop (omega (arith, mul-suc 8 n))) i
 
-pub bitsOf-packed : (n : ℕ) (bs : List Bool) → length bs ≡ 8 * n → bitsOf (packed n bs) ≡ bs
-unfolding packed bitsOf fields
-bitsOf-packed zero [] e = refl
-bitsOf-packed zero (b ∷ bs) e = absurd (omega arith)
-bitsOf-packed (suc n) bs e =
-    ap₂ _++_ (digits-number-at 8 (take 8 bs) (length-take-le 8 bs (omega (arith, mul-suc 8 n)))) (bitsOf-packed n (drop 8 bs) (rw length-drop (omega (arith, mul-suc 8 n))))
+pub bitsOf-eights : (n : ℕ) (bs : List Bool) → length bs ≡ 8 * n → bitsOf (eights n bs) ≡ bs
+unfolding eights bitsOf fields
+bitsOf-eights zero [] e = refl
+bitsOf-eights zero (b ∷ bs) e = absurd (omega arith)
+bitsOf-eights (suc n) bs e =
+    ap₂ _++_ (digits-number-at 8 (take 8 bs) (length-take-le 8 bs (omega (arith, mul-suc 8 n)))) (bitsOf-eights n (drop 8 bs) (rw length-drop (omega (arith, mul-suc 8 n))))
     ∙ take-append-drop 8 bs
 
 pub octets-append : (s t : List ℕ) → Octets s → Octets t → Octets (s ++ t)
@@ -50,15 +51,15 @@ module _ (bs : List Bool) where
 
   pub bytesOf-length : length (bytesOf bs) ≡ bytesFor (length bs)
   unfolding bytesOf
-  bytesOf-length = packed-length (bytesFor (length bs)) (bs ++ replicate (8 * bytesFor (length bs) - length bs) false)
+  bytesOf-length = eights-length (bytesFor (length bs)) (bs ++ replicate (8 * bytesFor (length bs) - length bs) false)
 
   pub bytesOf-octets : Octets (bytesOf bs)
   unfolding bytesOf
-  bytesOf-octets = packed-octets (bytesFor (length bs)) (bs ++ replicate (8 * bytesFor (length bs) - length bs) false) filled-length
+  bytesOf-octets = eights-octets (bytesFor (length bs)) (bs ++ replicate (8 * bytesFor (length bs) - length bs) false) filled-length
 
   pub bitsOf-bytesOf : bitsOf (bytesOf bs) ≡ bs ++ replicate (8 * bytesFor (length bs) - length bs) false
   unfolding bytesOf
-  bitsOf-bytesOf = bitsOf-packed (bytesFor (length bs)) (bs ++ replicate (8 * bytesFor (length bs) - length bs) false) filled-length
+  bitsOf-bytesOf = bitsOf-eights (bytesFor (length bs)) (bs ++ replicate (8 * bytesFor (length bs) - length bs) false) filled-length
 
   -- bytes that have these bits, and fewer than eight zero bits more
   pub bytes-are : (s : List ℕ) (z : ℕ) → Octets s → z < 8 → bitsOf s ≡ bs ++ replicate z false → s ≡ bytesOf bs

@@ -4,7 +4,8 @@ use mathlib.Core.Path.{_≡_}
 use mathlib.Core.Bool.{Bool, false}
 use mathlib.Core.List.{List, _++_}
 use lib.ListN.{length, replicate}
-use Rattle.bits.specs.Bits.{digits, number, bitsOf, bytesOf, fieldAt, Octets, Wrote}
+use Rattle.bits.specs.Bits.{digits, number, bytesOf}
+use Rattle.bits.specs.Fields.{bitsOf, fieldAt, Octets, Wrote}
 
 -- a number and its bits, there and back, at every width
 abbrev pub NumberDigits : Type 0

@@ -1,11 +1,13 @@
-// A bit cursor over bytes, most significant bit first. The specification is specs/Bits.antt: the bits of a list of bytes are
+// A bit cursor over bytes, most significant bit first. The specification is specs/Fields.antt: the bits of a list of bytes are
 // one list, `take` reads a run of it as a number, and `put` writes a number as a run of it and changes no other bit.
 
 ghost use mathlib.Core.Path.{_≡_};
 ghost use Prim.Native.Nat.{_+_, _-_, _*_, _^_, _≤_, _<_};
 ghost use mathlib.Core.Bool.{true, false};
 ghost use lib.ListN.{length, replicate};
-ghost use Rattle.bits.specs.Bits.{digits, fieldAt, Holds, Wrote};
+ghost use Rattle.bits.specs.Bits.{digits};
+ghost use Rattle.bits.specs.Fields.{fieldAt, Wrote};
+ghost use Rattle.bits.specs.inner.Stand.{BitsStand};
 
 // A place in a run of bits.
 pub struct Cursor {
@@ -90,8 +92,8 @@ impl Cursor {
     // Whether every bit from here up to bit `to` is 0.
     pub fn blank(self, s: &[u8], to: usize) -> bool
         requires { ⌜ (self .at ≤ to) × (to ≤ 8 * length (now s)) ⌝ }
-        ensures { λ r. ⌜ (r ≡ true → Holds (now (s .entry)) (self .at) to (replicate (to - self .at) false)) ⌝ }
-        ensures { λ r. ⌜ (Holds (now (s .entry)) (self .at) to (replicate (to - self .at) false) → r ≡ true) ⌝ }
+        ensures { λ r. ⌜ (r ≡ true → BitsStand (now (s .entry)) (self .at) to (replicate (to - self .at) false)) ⌝ }
+        ensures { λ r. ⌜ (BitsStand (now (s .entry)) (self .at) to (replicate (to - self .at) false) → r ≡ true) ⌝ }
     {
         let mut at = self.at;
         while at < to {

@@ -19,7 +19,7 @@ use Rattle.reply.specs.Read.{Is}
 use Rattle.reply.specs.inner.Decode.{read}
 use Rattle.reply.specs.inner.Fields.{HeadIs}
 use Rattle.reply.specs.declared.Head.{Head}
-use Rattle.reply.proofs.Round.{is-the, some-is, sound-of}
+use Rattle.reply.proofs.Round.{is-the, some-is, checked-of}
 use Rattle.meaning.specs.Refused.{refused, passed, granted}
 use Rattle.whole.specs.Whole.{Keeps, Free, Judging, Heard, partOf, Opened, Whole}
 use Rattle.whole.specs.inner.Steps.{Judged}
@@ -98,7 +98,7 @@ why-taken {d} {store} (passed w (passed n (passed t (passed u (passed v (passed 
 }
 
 pub taken-long : {d : Record} {store s : Bytes} → Taken d store s → 8 ≤ length s
-taken-long {d} {store} {s} t = omega (arith, sound-of 12 s (t .reply) (t .free .is) .head)
+taken-long {d} {store} {s} t = omega (arith, checked-of 12 s (t .reply) (t .free .is) .head)
 
 pub put-back : (u : ℕ) (xs rs ys : List ℕ) → ys ≡ take (length rs) rs ++ drop (length rs) (take (length xs - u) (drop u xs)) → take u xs ++ (ys ++ drop (length xs - u) (drop u xs)) ≡ putAt u rs xs
 put-back u xs rs ys e =

@@ -1,6 +1,6 @@
 -- What the functions that read and judge have shown, on plain values.
 use Prim.Native.Nat.{ℕ, zero, suc, _+_, _*_, _≤_, _<_}
-use mathlib.Core.Path.{_≡_, refl, sym, _∙_}
+use mathlib.Core.Path.{_≡_, refl, sym, ap, _∙_}
 use mathlib.Core.Bool.{Bool}
 use mathlib.Core.List.{List}
 use mathlib.Core.Logic.{_≢_}
@@ -10,17 +10,21 @@ use native.Mathlib.Omega.{arith}
 use native.Mathlib.Decide.{ℕ-discrete}
 use lib.ListN.{length, getD, set, replicate, length-set}
 use lib.Seq.{getD-set-same, getD-set-other}
-use Rattle.bits.specs.Bits.{fieldAt}
+use Rattle.bits.specs.Fields.{fieldAt}
 use Rattle.bits.proofs.Laws.{field-lt, one-more}
 use Rattle.meaning.specs.Says.{Says}
 use Rattle.meaning.proofs.Says.{says-iff}
 use Rattle.reply.specs.inner.Decode.{refWidth, stepWidth, inAt, refFrom, stepFrom, refAt, stepAt}
-use Rattle.reply.specs.inner.Sound.{RefOk, OperandOk, StepOk, StepGood, RefGood, InGood}
+use Rattle.reply.specs.inner.Checked.{RefOk, OperandOk, StepOk, StepGood, RefGood, InGood}
 use Rattle.reply.proofs.Lists.{up-to-suc}
 use Rattle.reply.specs.inner.Fields.{HeadIs, RefIs, StepIs}
 use Rattle.reply.specs.declared.Head.{Head}
 use Rattle.reply.specs.declared.RefField.{RefField}
 use Rattle.reply.specs.declared.StepField.{StepField}
+
+-- what was read at p was read at q, where these are the same place
+pub read-at : (s : List ℕ) (p q w v : ℕ) → v ≡ fieldAt s p w → p ≡ q → v ≡ fieldAt s q w
+read-at s p q w v e h = e ∙ ap (λ z. fieldAt s z w) h
 
 pub head-of : (s : List ℕ) (h : Head) → 8 ≤ length s → h .number ≡ fieldAt s 0 32 → h .fragment ≡ fieldAt s 32 5 → h .entries ≡ fieldAt s 37 5 + 1
     → h .ins ≡ fieldAt s 42 5 → h .steps ≡ fieldAt s 47 13 → HeadIs s h
@@ -45,22 +49,20 @@ ref-of w s at r h a b n = record {
   number-lt = rw b (field-lt s (at + 2) w (omega arith));
 }
 
-pub step-of : (w : ℕ) (s : List ℕ) (at : ℕ) (t : StepField) (p : ℕ) (a b : RefField) → at + stepWidth w ≤ 8 * length s → t .op ≡ fieldAt s at 2 → p ≡ at + 2 → RefIs w s p a → RefIs w s (a .next .at) b
+pub step-of : (w : ℕ) (s : List ℕ) (at : ℕ) (t : StepField) (p q : ℕ) (a b : RefField) → at + stepWidth w ≤ 8 * length s → t .op ≡ fieldAt s at 2 → RefIs w s p a → RefIs w s q b → p ≡ at + 2 → q ≡ at + 2 + refWidth w
     → t .kind1 ≡ a .kind → t .number1 ≡ a .number → t .kind2 ≡ b .kind → t .number2 ≡ b .number → StepIs w s at t
-step-of w s at t p a b h o e x y k1 n1 k2 n2 =
-    let q : a .next .at ≡ at + 2 + refWidth w = x .next-is ∙ rw e refl in
-    record {
-      op-is = o;
-      kind1-is = k1 ∙ (rw e at (x .kind-is));
-      number1-is = n1 ∙ (rw e at (x .number-is));
-      kind2-is = k2 ∙ (rw q at (y .kind-is));
-      number2-is = n2 ∙ (rw q at (y .number-is));
-      op-lt = rw o (field-lt s at 2 (omega arith));
-      kind1-lt = rw k1 (x .kind-lt);
-      kind2-lt = rw k2 (y .kind-lt);
-      number1-lt = rw n1 (x .number-lt);
-      number2-lt = rw n2 (y .number-lt);
-    }
+step-of w s at t p q a b h o x y ep eq k1 n1 k2 n2 = record {
+  op-is = o;
+  kind1-is = k1 ∙ (rw ep at (x .kind-is));
+  number1-is = n1 ∙ (rw ep at (x .number-is));
+  kind2-is = k2 ∙ (rw eq at (y .kind-is));
+  number2-is = n2 ∙ (rw eq at (y .number-is));
+  op-lt = rw o (field-lt s at 2 (omega arith));
+  kind1-lt = rw k1 (x .kind-lt);
+  kind2-lt = rw k2 (y .kind-lt);
+  number1-lt = rw n1 (x .number-lt);
+  number2-lt = rw n2 (y .number-lt);
+}
 
 pub ref-const : (n m k x : ℕ) {b : Bool} → k < 4 → (k ≡ 2 → ⊥) → (k ≡ 3 → ⊥) → Says (x ≡ 0) b → Says (RefOk n m k x) b
 unfolding RefOk

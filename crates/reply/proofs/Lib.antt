@@ -1,10 +1,10 @@
 -- The laws of the definitions in specs/, and the proofs of what `specs/Promise.antt` promises.
 pub mod Lists
 pub mod Fields
-pub mod Sound
+pub mod Checked
 pub mod Parts
 pub mod Tests
-pub mod Judged
+pub mod ReadTests
 pub mod Round
 pub mod Judge
 pub mod Verdicts

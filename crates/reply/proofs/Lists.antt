@@ -8,8 +8,8 @@ use mathlib.Core.Bool.{Bool}
 use mathlib.Core.List.{List, [], _∷_, _++_, append-assoc, append-nil}
 use lib.ListN.{length, getD, length-append}
 use lib.Seq.{ext-getD}
-use Rattle.bits.specs.Bits.{Holds}
-use Rattle.bits.proofs.Laws.{holds-none, holds-append, holds-split}
+use Rattle.bits.specs.inner.Stand.{BitsStand}
+use Rattle.bits.proofs.Laws.{stand-none, stand-append, stand-split}
 use Rattle.meaning.specs.Reply.{tabulated}
 use Rattle.meaning.proofs.Reply.{tabulated-at}
 use Rattle.reply.specs.Write.{each}
@@ -48,16 +48,16 @@ module _ {A : Type 0} where
     each-length (x ∷ xs) = rw (length-append, wide x, each-length xs, mul-suc) (omega arith)
 
     -- each one at its place, from the run
-    pub each-at : (s : List ℕ) (d : A) (xs : List A) (a b : ℕ) → Holds s a b (each f xs) → (i : ℕ) → i < length xs
-        → Holds s (a + W * i) (a + W * i + W) (f (getD xs i d))
+    pub each-at : (s : List ℕ) (d : A) (xs : List A) (a b : ℕ) → BitsStand s a b (each f xs) → (i : ℕ) → i < length xs
+        → BitsStand s (a + W * i) (a + W * i + W) (f (getD xs i d))
     unfolding each
     each-at s d [] a b h i l = absurd (omega arith)
     each-at s d (x ∷ xs) a b h zero l =
         let z : a + W * zero ≡ a = rw mul-zero (omega arith) in
-        rw z (holds-split (a + W) (f x) (each f xs) (rw wide refl) h .0)
+        rw z (stand-split (a + W) (f x) (each f xs) (rw wide refl) h .0)
     each-at s d (x ∷ xs) a b h (suc i) l =
         let z : a + W * suc i ≡ a + W + W * i = rw mul-suc (omega arith) in
-        rw z (each-at s d xs (a + W) b (holds-split (a + W) (f x) (each f xs) (rw wide refl) h .1) i (omega arith))
+        rw z (each-at s d xs (a + W) b (stand-split (a + W) (f x) (each f xs) (rw wide refl) h .1) i (omega arith))
 
   pub each-append : (f : A → List Bool) (xs ys : List A) → each f (xs ++ ys) ≡ each f xs ++ each f ys
   unfolding each
@@ -77,11 +77,11 @@ module _ {A : Type 0} where
   each-more f g n = rw (tab-snoc n g) (each-snoc f (tabulated n 0 g) (g n))
 
   -- the run, from each one at its place
-  pub at-each : (W : ℕ) (f : A → List Bool) (s : List ℕ) (g : ℕ → A) (n a : ℕ) → a + W * n ≤ 8 * length s → ((i : ℕ) → i < n → Holds s (a + W * i) (a + W * i + W) (f (g i)))
-      → Holds s a (a + W * n) (each f (tabulated n 0 g))
+  pub at-each : (W : ℕ) (f : A → List Bool) (s : List ℕ) (g : ℕ → A) (n a : ℕ) → a + W * n ≤ 8 * length s → ((i : ℕ) → i < n → BitsStand s (a + W * i) (a + W * i + W) (f (g i)))
+      → BitsStand s a (a + W * n) (each f (tabulated n 0 g))
   at-each W f s g zero a r h =
       let z : a + W * zero ≡ a = rw mul-zero (omega arith) in
-      rw (z, each-none f g) (holds-none s a (rw z at r))
+      rw (z, each-none f g) (stand-none s a (rw z at r))
   at-each W f s g (suc n) a r h =
       let z : a + W * suc n ≡ a + W * n + W = rw mul-suc (omega arith) in
-      rw (z, each-more f g n) (holds-append (at-each W f s g n a (omega arith) (λ i l. h i (omega arith))) (h n (omega arith)))
+      rw (z, each-more f g n) (stand-append (at-each W f s g n a (omega arith) (λ i l. h i (omega arith))) (h n (omega arith)))

@@ -5,30 +5,31 @@ use mathlib.Core.Path.{_≡_, refl, sym, _∙_}
 use mathlib.Core.Bool.{false}
 use mathlib.Core.List.{List, _++_}
 use lib.ListN.{length, getD, replicate, length-append, length-replicate}
-use Rattle.bits.specs.Bits.{digits, Holds}
+use Rattle.bits.specs.Bits.{digits}
+use Rattle.bits.specs.inner.Stand.{BitsStand}
 use Rattle.bits.proofs.Digits.{digits-length}
-use Rattle.bits.proofs.Laws.{holds-field, holds-split, whole-holds}
+use Rattle.bits.proofs.Laws.{stand-field, stand-split, whole-stand}
 use Rattle.meaning.specs.Formula.{Ref, Step}
 use Rattle.meaning.specs.Reply.{Reply}
 use Rattle.reply.specs.Write.{refBits, stepBits, each, headBits, replyBits}
 use Rattle.reply.specs.WellFormed.{vars, Result, WellFormed, Fits}
 use Rattle.reply.specs.inner.Decode.{refWidth, stepWidth, refAt, stepAt, insTo, stepsTo, vTo, endOf, inAt, insOf, stepsOf, entriesOf, fragmentOf, numberOf, decoded}
-use Rattle.reply.specs.inner.Sound.{RefGood, StepGood, Sound}
+use Rattle.reply.specs.inner.Checked.{RefGood, StepGood, Checked}
 use Rattle.reply.proofs.Lists.{tab-is, each-length, each-at}
 use Rattle.reply.proofs.Fields.{ref-length, ref-out, step-length, step-out}
-use Rattle.reply.proofs.Sound.{Writes}
+use Rattle.reply.proofs.Checked.{Writes}
 
 pub record Parts (w : ℕ) (s : List ℕ) (r : Reply) : Type 0 where
-  pub number-at : Holds s 0 32 (digits 32 (r .number))
-  pub fragment-at : Holds s 32 37 (digits 5 (r .fragment))
-  pub entries-at : Holds s 37 42 (digits 5 (r .entries - 1))
-  pub ins-count : Holds s 42 47 (digits 5 (length (r .ins)))
-  pub steps-count : Holds s 47 60 (digits 13 (length (r .steps)))
-  pub ins-at : Holds s 60 (insTo (length (r .ins))) (each (digits 5) (r .ins))
-  pub steps-at : Holds s (insTo (length (r .ins))) (stepsTo w (length (r .ins)) (length (r .steps))) (each (stepBits w) (r .steps))
-  pub v-at : Holds s (stepsTo w (length (r .ins)) (length (r .steps))) (vTo w (length (r .ins)) (length (r .steps)) (r .entries)) (each (refBits w) (r .v))
-  pub d-at : Holds s (vTo w (length (r .ins)) (length (r .steps)) (r .entries)) (endOf w (length (r .ins)) (length (r .steps)) (r .entries)) (each (refBits w) (r .d))
-  pub rest : Holds s (endOf w (length (r .ins)) (length (r .steps)) (r .entries)) (8 * length s) (replicate (8 * length s - endOf w (length (r .ins)) (length (r .steps)) (r .entries)) false)
+  pub number-at : BitsStand s 0 32 (digits 32 (r .number))
+  pub fragment-at : BitsStand s 32 37 (digits 5 (r .fragment))
+  pub entries-at : BitsStand s 37 42 (digits 5 (r .entries - 1))
+  pub ins-count : BitsStand s 42 47 (digits 5 (length (r .ins)))
+  pub steps-count : BitsStand s 47 60 (digits 13 (length (r .steps)))
+  pub ins-at : BitsStand s 60 (insTo (length (r .ins))) (each (digits 5) (r .ins))
+  pub steps-at : BitsStand s (insTo (length (r .ins))) (stepsTo w (length (r .ins)) (length (r .steps))) (each (stepBits w) (r .steps))
+  pub v-at : BitsStand s (stepsTo w (length (r .ins)) (length (r .steps))) (vTo w (length (r .ins)) (length (r .steps)) (r .entries)) (each (refBits w) (r .v))
+  pub d-at : BitsStand s (vTo w (length (r .ins)) (length (r .steps)) (r .entries)) (endOf w (length (r .ins)) (length (r .steps)) (r .entries)) (each (refBits w) (r .d))
+  pub rest : BitsStand s (endOf w (length (r .ins)) (length (r .steps)) (r .entries)) (8 * length s) (replicate (8 * length s - endOf w (length (r .ins)) (length (r .steps)) (r .entries)) false)
   pub close : 8 * length s < endOf w (length (r .ins)) (length (r .steps)) (r .entries) + 8
 
 pub head-length : (a b c d e : ℕ) → length (headBits a b c d e) ≡ 60
@@ -68,18 +69,18 @@ to-parts w s r g q =
     let c4 = digits 5 k ++ c5 in
     let c3 = digits 5 (n - 1) ++ c4 in
     let c2 = digits 5 (r .fragment) ++ c3 in
-    let z : Holds s 0 (8 * length s) ((h ++ b6) ++ replicate (q .filling) false) = whole-holds (q .bits) in
+    let z : BitsStand s 0 (8 * length s) ((h ++ b6) ++ replicate (q .filling) false) = whole-stand (q .bits) in
     let total : endOf w k m n ≡ 0 + length (h ++ b6) = omega (arith, bits-length w r (g .v-all) (g .d-all)) in
     let head : 60 ≡ 0 + length h = omega (arith, head-length (r .number) (r .fragment) n k m) in
-    let h0 = holds-split (endOf w k m n) (h ++ b6) (replicate (q .filling) false) total z in
-    let h1 = holds-split 60 h b6 head (h0 .0) in
-    let h2 = holds-split 32 (digits 32 (r .number)) c2 (rw digits-length refl) (h1 .0) in
-    let h3 = holds-split 37 (digits 5 (r .fragment)) c3 (rw digits-length refl) (h2 .1) in
-    let h4 = holds-split 42 (digits 5 (n - 1)) c4 (rw digits-length refl) (h3 .1) in
-    let h5 = holds-split 47 (digits 5 k) c5 (rw digits-length refl) (h4 .1) in
-    let h6 = holds-split (insTo k) (each (digits 5) (r .ins)) b7 (rw (ins-length w r (g .v-all) (g .d-all)) refl) (h1 .1) in
-    let h7 = holds-split (stepsTo w k m) (each (stepBits w) (r .steps)) b8 (rw (steps-length w r (g .v-all) (g .d-all)) refl) (h6 .1) in
-    let h8 = holds-split (vTo w k m n) (each (refBits w) (r .v)) b9 (rw (v-length w r (g .v-all) (g .d-all)) refl) (h7 .1) in
+    let h0 = stand-split (endOf w k m n) (h ++ b6) (replicate (q .filling) false) total z in
+    let h1 = stand-split 60 h b6 head (h0 .0) in
+    let h2 = stand-split 32 (digits 32 (r .number)) c2 (rw digits-length refl) (h1 .0) in
+    let h3 = stand-split 37 (digits 5 (r .fragment)) c3 (rw digits-length refl) (h2 .1) in
+    let h4 = stand-split 42 (digits 5 (n - 1)) c4 (rw digits-length refl) (h3 .1) in
+    let h5 = stand-split 47 (digits 5 k) c5 (rw digits-length refl) (h4 .1) in
+    let h6 = stand-split (insTo k) (each (digits 5) (r .ins)) b7 (rw (ins-length w r (g .v-all) (g .d-all)) refl) (h1 .1) in
+    let h7 = stand-split (stepsTo w k m) (each (stepBits w) (r .steps)) b8 (rw (steps-length w r (g .v-all) (g .d-all)) refl) (h6 .1) in
+    let h8 = stand-split (vTo w k m n) (each (refBits w) (r .v)) b9 (rw (v-length w r (g .v-all) (g .d-all)) refl) (h7 .1) in
     let f : 8 * length s ≡ endOf w k m n + q .filling = h0 .1 .end ∙ rw length-replicate refl in
     let e : q .filling ≡ 8 * length s - endOf w k m n = omega arith in
     record {
@@ -109,22 +110,22 @@ module _ (w : ℕ) (s : List ℕ) (r : Reply) (g : WellFormed r) (x : Fits w r) 
   p = to-parts w s r g q
 
   pub number-read : numberOf s ≡ r .number
-  number-read = holds-field 32 (r .number) (g .number-fits) (p .number-at)
+  number-read = stand-field 32 (r .number) (g .number-fits) (p .number-at)
 
   pub fragment-read : fragmentOf s ≡ r .fragment
-  fragment-read = holds-field 5 (r .fragment) (g .fragment-fits) (p .fragment-at)
+  fragment-read = stand-field 5 (r .fragment) (g .fragment-fits) (p .fragment-at)
 
   pub entries-read : entriesOf s ≡ r .entries
-  entries-read = let e = holds-field 5 (r .entries - 1) (omega (arith, g .few-entries, g .some-entry)) (p .entries-at) in omega (arith, e, g .some-entry)
+  entries-read = let e = stand-field 5 (r .entries - 1) (omega (arith, g .few-entries, g .some-entry)) (p .entries-at) in omega (arith, e, g .some-entry)
 
   pub ins-read : insOf s ≡ length (r .ins)
-  ins-read = holds-field 5 (length (r .ins)) (g .few-ins) (p .ins-count)
+  ins-read = stand-field 5 (length (r .ins)) (g .few-ins) (p .ins-count)
 
   pub steps-read : stepsOf s ≡ length (r .steps)
-  steps-read = holds-field 13 (length (r .steps)) (omega (arith, g .few-steps)) (p .steps-count)
+  steps-read = stand-field 13 (length (r .steps)) (omega (arith, g .few-steps)) (p .steps-count)
 
   pub in-read : (i : ℕ) → i < length (r .ins) → inAt s i ≡ getD (r .ins) i 0
-  in-read i l = holds-field 5 (getD (r .ins) i 0) (g .ins-fit i l .1) (each-at 5 (digits 5) (digits-length 5) s 0 (r .ins) 60 (insTo (length (r .ins))) (p .ins-at) i l)
+  in-read i l = stand-field 5 (getD (r .ins) i 0) (g .ins-fit i l .1) (each-at 5 (digits 5) (digits-length 5) s 0 (r .ins) 60 (insTo (length (r .ins))) (p .ins-at) i l)
 
   pub step-read : (i : ℕ) → i < length (r .steps) → StepGood w s (vars (r .entries) (length (r .ins))) i (insTo (length (r .ins)) + stepWidth w * i)
       × (stepAt w s (insTo (length (r .ins)) + stepWidth w * i) ≡ getD (r .steps) i (Step.not Ref.low))
@@ -133,7 +134,7 @@ module _ (w : ℕ) (s : List ℕ) (r : Reply) (g : WellFormed r) (x : Fits w r) 
       step-out w (vars (r .entries) (length (r .ins))) i s (a + stepWidth w * i) (a + stepWidth w * i + stepWidth w) (x .vars-fit) (omega (arith, x .steps-fit)) (getD (r .steps) i (Step.not Ref.low))
       (each-at (stepWidth w) (stepBits w) (step-length w) s (Step.not Ref.low) (r .steps) a (stepsTo w (length (r .ins)) (length (r .steps))) (p .steps-at) i l) (g .operands i l)
 
-  ref-read : (a b : ℕ) (l : List Ref) → length l ≡ r .entries → Holds s a b (each (refBits w) l)
+  ref-read : (a b : ℕ) (l : List Ref) → length l ≡ r .entries → BitsStand s a b (each (refBits w) l)
       → ((e : ℕ) → e < r .entries → Result (vars (r .entries) (length (r .ins))) (length (r .steps)) (getD l e Ref.low))
       → (e : ℕ) → e < r .entries → RefGood w s (vars (r .entries) (length (r .ins))) (length (r .steps)) (a + refWidth w * e) × (refAt w s (a + refWidth w * e) ≡ getD l e Ref.low)
   ref-read a b l all h good e y =
@@ -158,8 +159,8 @@ module _ (w : ℕ) (s : List ℕ) (r : Reply) (g : WellFormed r) (x : Fits w r) 
       (rw (ins-read, steps-read, entries-read) (tab-is (λ e. refAt w s (stepsTo w (length (r .ins)) (length (r .steps)) + refWidth w * e)) Ref.low (r .v) (r .entries) (g .v-all) (λ e l. sym (v-read e l .1))))
       (rw (ins-read, steps-read, entries-read) (tab-is (λ e. refAt w s (vTo w (length (r .ins)) (length (r .steps)) (r .entries) + refWidth w * e)) Ref.low (r .d) (r .entries) (g .d-all) (λ e l. sym (d-read e l .1))))
 
-  pub is-sound : Sound w s
-  is-sound = record {
+  pub is-checked : Checked w s
+  is-checked = record {
     head = p .steps-count .room;
     asked = rw number-read (g .asked);
     few = rw steps-read (g .few-steps);

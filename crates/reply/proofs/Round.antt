@@ -1,13 +1,13 @@
--- Writing and reading are each other's inverse: bytes are read as a reply exactly if they are sound, and then it is the decoded one.
+-- Writing and reading are each other's inverse: bytes are read as a reply exactly if they pass the check, and then it is the decoded one.
 use Prim.Native.Nat.{ℕ, _+_, _-_, _*_, _≤_, _<_}
 use native.Mathlib.Nat.{mul-le-mul, mul-assoc}
 use native.Mathlib.Omega.{arith}
 use mathlib.Core.Path.{_≡_, refl, sym, _∙_, subst}
 use mathlib.Core.Bool.{Bool, _&&_, cond}
-use mathlib.Core.Option.{Option, none, some}
+use mathlib.Core.Option.{none, some}
 use lib.ListN.{length, getD}
 use Rattle.bits.specs.Bits.{bytesFor}
-use Rattle.bits.specs.Bits.{Octets}
+use Rattle.bits.specs.Fields.{Octets}
 use Rattle.bits.proofs.Packed.{bytesOf-length, bitsOf-bytesOf, bytes-are}
 use Rattle.meaning.specs.Says.{Says, aye, nay}
 use Rattle.meaning.specs.Bytes.{Bytes, sameBytes}
@@ -18,14 +18,13 @@ use Rattle.reply.specs.Write.{replyBits, write}
 use Rattle.reply.specs.WellFormed.{vars, WellFormed, Fits}
 use Rattle.reply.specs.Read.{Is}
 use Rattle.reply.specs.inner.Decode.{refWidth, stepWidth, insTo, stepsTo, vTo, numberOf, fragmentOf, entriesOf, insOf, stepsOf, inAt, refAt, stepAt, decoded, wellFormed, fits, read}
-use Rattle.reply.specs.inner.Sound.{Sound}
-use Rattle.reply.specs.inner.Fields.{verdict}
+use Rattle.reply.specs.inner.Checked.{Checked}
 use Rattle.reply.specs.inner.Promise.{SizeIs}
-use Rattle.reply.specs.Promise.{WriteRead, ReadWrite, OneReply, Fits12, MostBytes}
+use Rattle.reply.specs.Promise.{RoundTrip, OneReply, Fits12, MostBytes}
 use Rattle.reply.proofs.Tests.{says-same-bytes}
-use Rattle.reply.proofs.Judged.{says-formed, says-fits}
-use Rattle.reply.proofs.Sound.{Writes, sound-formed, sound-writes}
-use Rattle.reply.proofs.Parts.{bits-length, is-decoded, is-sound, number-read, fragment-read, entries-read, ins-read, steps-read, in-read, step-read, v-read, d-read}
+use Rattle.reply.proofs.ReadTests.{says-formed, says-fits}
+use Rattle.reply.proofs.Checked.{Writes, checked-formed, checked-writes}
+use Rattle.reply.proofs.Parts.{bits-length, is-decoded, is-checked, number-read, fragment-read, entries-read, ins-read, steps-read, in-read, step-read, v-read, d-read}
 
 -- ---- bytes and bits
 pub writes-bits : (w : ℕ) (r : Reply) (s : Bytes) → write w r ≡ s → Writes w r s
@@ -56,14 +55,6 @@ module _ (w : ℕ) (s : Bytes) where
       go (aye a) = refl
       go (nay n) = absurd (n i)
 
-  pub read-none : (Is w s (decoded w s) → ⊥) → read w s ≡ none
-  unfolding read
-  read-none h = go (tested w s)
-    where
-      go : {b : Bool} → Says (Is w s (decoded w s)) b → cond b (some (decoded w s)) none ≡ none
-      go (aye a) = absurd (h a)
-      go (nay n) = refl
-
   pub read-is : (r : Reply) → read w s ≡ some r → Is w s r
   unfolding read
   read-is r e = go (tested w s) e
@@ -76,8 +67,8 @@ module _ (w : ℕ) (s : Bytes) where
   pub is-the : (r : Reply) → Is w s r → r ≡ decoded w s
   is-the r i = is-decoded w s r (i .formed) (i .fits) (writes-bits w r s (i .writes))
 
-  pub sound-of : (r : Reply) → Is w s r → Sound w s
-  sound-of r i = is-sound w s r (i .formed) (i .fits) (writes-bits w r s (i .writes))
+  pub checked-of : (r : Reply) → Is w s r → Checked w s
+  checked-of r i = is-checked w s r (i .formed) (i .fits) (writes-bits w r s (i .writes))
 
   pub some-is : (r : Reply) → Is w s r → read w s ≡ some r
   some-is r i = let e = is-the r i in rw e (is-read (subst (Is w s) e i))
@@ -112,11 +103,11 @@ fields-of w s r i =
     }
 
 -- ---- the promises
-pub write-read : WriteRead
+pub write-read : (w : ℕ) (r : Reply) → WellFormed r → Fits w r → read w (write w r) ≡ some r
 write-read w r g x = some-is w (write w r) r (record { formed = g; fits = x; writes = refl })
 
-pub read-write : ReadWrite
-read-write = read-is
+pub round-trip : RoundTrip
+round-trip w = record { read = read w; back = write-read w; forth = read-is w }
 
 pub one-reply : OneReply
 one-reply w r t g h x y e =
@@ -136,22 +127,8 @@ size-is w r v d = bytesOf-length (replyBits w r) ∙ rw (bits-length w r v d) re
 pub most-bytes : MostBytes
 most-bytes r g = rw (size-is 12 r (g .v-all) (g .d-all)) (omega (arith, g .few-ins, g .few-steps, g .few-entries))
 
--- with 12 bits, sound bytes are a reply
-pub sound-read : (s : Bytes) → Octets s → Sound 12 s → read 12 s ≡ some (decoded 12 s)
-sound-read s o h =
-    let g = sound-formed 12 s h in
-    is-read 12 s (record { formed = g; fits = fits-12 (decoded 12 s) g; writes = bits-write 12 (decoded 12 s) s o (sound-writes 12 s h) })
-
-pub unsound-none : (w : ℕ) (s : Bytes) → (Sound w s → ⊥) → read w s ≡ none
-unsound-none w s h = read-none w s (λ i. h (sound-of w s (decoded w s) i))
-
--- what the check's answer tells
-pub check-reply : (s : Bytes) → 0 ≡ verdict (read 12 s) → (r : Reply) × Is 12 s r
-check-reply s e = go (read 12 s) refl e
-  where
-    go : (o : Option Reply) → read 12 s ≡ o → 0 ≡ verdict o → (r : Reply) × Is 12 s r
-    go none q z = absurd (omega arith)
-    go (some r) q z = (r, read-is 12 s r q)
-
-pub check-none : (s : Bytes) → 13 ≡ verdict (read 12 s) → (r : Reply) → Is 12 s r → ⊥
-check-none s e r i = let z : 13 ≡ verdict (some r) = rw (some-is 12 s r i) at e in omega arith
+-- with 12 bits, bytes that pass are a reply
+pub checked-is : (s : Bytes) → Octets s → Checked 12 s → Is 12 s (decoded 12 s)
+checked-is s o h =
+    let g = checked-formed 12 s h in
+    record { formed = g; fits = fits-12 (decoded 12 s) g; writes = bits-write 12 (decoded 12 s) s o (checked-writes 12 s h) }

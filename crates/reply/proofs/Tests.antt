@@ -12,18 +12,18 @@ use Rattle.meaning.proofs.Says.{says-iff, says-and, says-not}
 use Rattle.reply.specs.inner.Decode.{every}
 use Rattle.reply.proofs.Lists.{up-to-suc}
 
-go : {A : Type 0} (b : Bool) → (b ≡ true → A) → (b ≡ false → A → ⊥) → Says A b
-go true f g = aye (f refl)
-go false f g = nay (g refl)
+pub says-by : {A : Type 0} (b : Bool) → (b ≡ true → A) → (b ≡ false → A → ⊥) → Says A b
+says-by true f g = aye (f refl)
+says-by false f g = nay (g refl)
 
 pub says-lt : (a b : ℕ) → Says (a < b) (ltb a b)
-says-lt a b = go (ltb a b) (ltb-true a b) (λ e h. omega (arith, ltb-false a b e))
+says-lt a b = says-by (ltb a b) (ltb-true a b) (λ e h. omega (arith, ltb-false a b e))
 
 pub says-le : (a b : ℕ) → Says (a ≤ b) (leb a b)
-says-le a b = go (leb a b) (leb-true a b) (λ e h. omega (arith, leb-false a b e))
+says-le a b = says-by (leb a b) (leb-true a b) (λ e h. omega (arith, leb-false a b e))
 
 pub says-eq : (a b : ℕ) → Says (a ≡ b) (eqb a b)
-says-eq a b = go (eqb a b) (eqb-true a b) (eqb-false a b)
+says-eq a b = says-by (eqb a b) (eqb-true a b) (eqb-false a b)
 
 pub says-ne : (a b : ℕ) → Says (a ≡ b → ⊥) (not (eqb a b))
 says-ne a b = says-not (says-eq a b)

@@ -1,9 +1,9 @@
 -- A reply and its bytes, worked by hand from 01: two entries, one stand-in, so variables 0 to 3; and, then not of it.
-use Prim.Native.Nat.{ℕ}
 use mathlib.Core.Path.{_≡_, refl}
 use mathlib.Core.Option.{none, some}
-use mathlib.Core.List.{List, [], _∷_}
-use Rattle.bits.specs.Bits.{bit, worth, digits, number, fields, bitsOf, packed, bytesOf, bitsAt, fieldAt}
+use mathlib.Core.List.{[], _∷_}
+use Rattle.bits.specs.Bits.{bit, worth, digits, number, eights, bytesOf}
+use Rattle.bits.specs.Fields.{fields, bitsOf, bitsAt, fieldAt}
 use Rattle.meaning.specs.Bytes.{Bytes, sameBytes}
 use Rattle.meaning.specs.Formula.{Ref, Step}
 use Rattle.meaning.specs.Reply.{Reply, tabulated}
@@ -27,11 +27,11 @@ abbrev worked : Bytes
 worked = 1 ∷ 2 ∷ 3 ∷ 4 ∷ 24 ∷ 66 ∷ 0 ∷ 35 ∷ 144 ∷ 0 ∷ 64 ∷ 3 ∷ 96 ∷ 0 ∷ 0 ∷ 0 ∷ 0 ∷ 24 ∷ 0 ∷ 160 ∷ 1 ∷ 0 ∷ 24 ∷ []
 
 pub small-written : write 12 small ≡ worked
-unfolding write replyBits headBits each refBits stepBits bytesOf packed number worth digits bit
+unfolding write replyBits headBits each refBits stepBits bytesOf eights number worth digits bit
 small-written = refl
 
 pub small-read : read 12 worked ≡ some small
-unfolding read decoded refAt stepAt refFrom stepFrom tabulated wellFormed fits every vars write replyBits headBits each refBits stepBits bytesOf packed number worth digits bit fields bitsOf bitsAt fieldAt sameBytes
+unfolding read decoded refAt stepAt refFrom stepFrom tabulated wellFormed fits every vars write replyBits headBits each refBits stepBits bytesOf eights number worth digits bit fields bitsOf bitsAt fieldAt sameBytes
 small-read = refl
 
 -- the same bytes damaged: number 0; a stand-in equal to the fragment; false as an operand; a step that points at itself; filling; a byte less
@@ -42,5 +42,5 @@ pub damaged :
     × (read 12 (1 ∷ 2 ∷ 3 ∷ 4 ∷ 24 ∷ 66 ∷ 0 ∷ 35 ∷ 144 ∷ 0 ∷ 64 ∷ 3 ∷ 96 ∷ 2 ∷ 0 ∷ 0 ∷ 0 ∷ 24 ∷ 0 ∷ 160 ∷ 1 ∷ 0 ∷ 24 ∷ []) ≡ none)
     × (read 12 (1 ∷ 2 ∷ 3 ∷ 4 ∷ 24 ∷ 66 ∷ 0 ∷ 35 ∷ 144 ∷ 0 ∷ 64 ∷ 3 ∷ 96 ∷ 0 ∷ 0 ∷ 0 ∷ 0 ∷ 24 ∷ 0 ∷ 160 ∷ 1 ∷ 0 ∷ 25 ∷ []) ≡ none)
     × (read 12 (1 ∷ 2 ∷ 3 ∷ 4 ∷ 24 ∷ 66 ∷ 0 ∷ 35 ∷ 144 ∷ 0 ∷ 64 ∷ 3 ∷ 96 ∷ 0 ∷ 0 ∷ 0 ∷ 0 ∷ 24 ∷ 0 ∷ 160 ∷ 1 ∷ 0 ∷ []) ≡ none)
-unfolding read decoded refAt stepAt refFrom stepFrom tabulated wellFormed fits every vars write replyBits headBits each refBits stepBits bytesOf packed number worth digits bit fields bitsOf bitsAt fieldAt sameBytes
+unfolding read decoded refAt stepAt refFrom stepFrom tabulated wellFormed fits every vars write replyBits headBits each refBits stepBits bytesOf eights number worth digits bit fields bitsOf bitsAt fieldAt sameBytes
 damaged = (refl, refl, refl, refl, refl, refl)

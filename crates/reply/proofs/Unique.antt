@@ -1,14 +1,15 @@
 -- Any two results that a contract allows are equal.
 use Prim.Native.Nat.{ℕ}
 use mathlib.Core.Path.{_≡_, refl, sym, _∙_}
+use Rattle.meaning.proofs.Refused.{one-granted, one-unless}
 use Rattle.reply.specs.inner.Promise.{OneHead, OneIn, OneRef, OneStep}
-use Rattle.reply.specs.Promise.{OneVerdict}
+use Rattle.reply.specs.Promise.{OneCheck}
 use Rattle.reply.specs.declared.Head.{Head}
 use Rattle.reply.specs.declared.RefField.{RefField}
 use Rattle.reply.specs.declared.StepField.{StepField}
 
-pub one-verdict : OneVerdict
-one-verdict s a b p q = p ∙ sym q
+pub one-check : OneCheck
+one-check s = one-unless one-granted
 
 -- structs are equal where their fields are
 head : ℕ → ℕ → ℕ → ℕ → ℕ → Head

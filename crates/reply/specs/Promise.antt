@@ -1,23 +1,23 @@
--- WHAT IS PROVED OF THESE DEFINITIONS: each promise is a type, and proofs/ has an element of it under its name (`write-read` of `WriteRead`).
+-- WHAT IS PROVED OF THESE DEFINITIONS: each promise is a type, and proofs/ has its element under its name (`round-trip` of `RoundTrip`).
 use Prim.Native.Nat.{ℕ, _≤_}
 use mathlib.Core.Path.{_≡_}
-use mathlib.Core.Option.{some}
+use mathlib.Core.Option.{Option, some}
 use lib.ListN.{length}
 use Rattle.meaning.specs.Bytes.{Bytes}
 use Rattle.meaning.specs.Reply.{Reply}
 use Rattle.reply.specs.Write.{write}
 use Rattle.reply.specs.WellFormed.{WellFormed, Fits}
-use Rattle.reply.specs.Read.{Is}
-use Rattle.reply.specs.inner.Fields.{verdict}
-use Rattle.reply.specs.inner.Decode.{read}
+use Rattle.reply.specs.Read.{Is, Checks}
 
--- a well-formed reply written and read is the same reply
-abbrev pub WriteRead : Type 0
-WriteRead = (w : ℕ) (r : Reply) → WellFormed r → Fits w r → read w (write w r) ≡ some r
+-- there is a function that reads: a reply turned to bytes reads back as the same reply,
+-- and bytes that are read write back as the same bytes
+pub record Reading (w : ℕ) : Type 0 where
+  pub read : Bytes → Option Reply
+  pub back : (r : Reply) → WellFormed r → Fits w r → read (write w r) ≡ some r
+  pub forth : (s : Bytes) (r : Reply) → read s ≡ some r → Is w s r
 
--- bytes that are read as a reply are well formed and write back as the same bytes
-abbrev pub ReadWrite : Type 0
-ReadWrite = (w : ℕ) (s : Bytes) (r : Reply) → read w s ≡ some r → Is w s r
+abbrev pub RoundTrip : Type 0
+RoundTrip = (w : ℕ) → Reading w
 
 -- no two replies share bytes
 abbrev pub OneReply : Type 0
@@ -31,5 +31,5 @@ abbrev pub MostBytes : Type 0
 MostBytes = (r : Reply) → WellFormed r → length (write 12 r) ≤ 15_499
 
 -- ---- any two results that a contract allows are equal (a cursor's writes: `OneWrite` of crate bits)
-abbrev pub OneVerdict : Type 0
-OneVerdict = (s : Bytes) (a b : ℕ) → a ≡ verdict (read 12 s) → b ≡ verdict (read 12 s) → a ≡ b
+abbrev pub OneCheck : Type 0
+OneCheck = (s : Bytes) (a b : ℕ) → Checks s a → Checks s b → a ≡ b

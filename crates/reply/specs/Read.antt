@@ -3,6 +3,7 @@ use Prim.Native.Nat.{ℕ}
 use mathlib.Core.Path.{_≡_}
 use Rattle.meaning.specs.Bytes.{Bytes}
 use Rattle.meaning.specs.Reply.{Reply}
+use Rattle.meaning.specs.Refused.{Unless, Granted}
 use Rattle.reply.specs.Write.{write}
 use Rattle.reply.specs.WellFormed.{WellFormed, Fits}
 
@@ -10,3 +11,7 @@ pub record Is (w : ℕ) (s : Bytes) (r : Reply) : Type 0 where
   pub formed : WellFormed r
   pub fits : Fits w r
   pub writes : write w r ≡ s
+
+-- THE CHECK'S ANSWER: 13 unless the bytes are a reply
+abbrev pub Checks : Bytes → ℕ → Type 0
+Checks s = Unless ((r : Reply) × Is 12 s r) 13 Granted

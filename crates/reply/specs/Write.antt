@@ -28,7 +28,8 @@ each f (x ∷ xs) = f x ++ each f xs
 
 -- question number 32, fragment 5, entries less one 5, stand-ins 5, steps 13
 unfoldable pub headBits : ℕ → ℕ → ℕ → ℕ → ℕ → List Bool
-headBits number fragment entries ins steps = digits 32 number ++ (digits 5 fragment ++ (digits 5 (entries - 1) ++ (digits 5 ins ++ digits 13 steps)))
+headBits number fragment entries ins steps =
+    digits 32 number ++ (digits 5 fragment ++ (digits 5 (entries - 1) ++ (digits 5 ins ++ digits 13 steps)))
 
 -- the header; each stand-in's fragment 5; each step; V then D
 unfoldable pub replyBits : ℕ → Reply → List Bool

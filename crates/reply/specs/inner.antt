@@ -1,5 +1,5 @@
 -- What inner functions' contracts cite, and no reader has to believe.
 pub mod Decode
-pub mod Sound
+pub mod Checked
 pub mod Fields
 pub mod Promise

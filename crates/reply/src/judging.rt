@@ -6,13 +6,12 @@ use crate::take_in;
 use crate::take_ref;
 use crate::take_step;
 use bits::Cursor;
-ghost use mathlib.Core.Path.{_≡_};
 ghost use Prim.Native.Nat.{_+_, _*_, _^_, _≤_, _<_};
 ghost use lib.ListN.{length};
 ghost use Rattle.meaning.specs.Says.{Says};
-ghost use Rattle.reply.specs.inner.Decode.{refWidth, stepWidth, insTo, read};
-ghost use Rattle.reply.specs.inner.Sound.{RefOk, OperandOk, StepOk, RefGood, StepGood, InGood};
-ghost use Rattle.reply.specs.inner.Fields.{verdict};
+ghost use Rattle.reply.specs.Read.{Checks};
+ghost use Rattle.reply.specs.inner.Decode.{refWidth, stepWidth, insTo};
+ghost use Rattle.reply.specs.inner.Checked.{RefOk, OperandOk, StepOk, RefGood, StepGood, InGood};
 
 fn ref_ok(kind: u32, number: usize, vars: usize, steps: usize) -> bool
     requires { ⌜ kind < 4 ⌝ }
@@ -117,7 +116,7 @@ fn refs_ok(s: &[u8], w: usize, at: usize, count: usize, vars: usize, steps: usiz
 // 0 if the bytes are a reply, else 13.
 #[no_mangle]
 pub extern "C" fn reply_check(bytes: &[u8]) -> u8
-    ensures { λ r. ⌜ r ≡ verdict (read 12 (now (bytes .entry))) ⌝ }
+    ensures { λ r. ⌜ Checks (now (bytes .entry)) r ⌝ }
 {
     let size = bytes.len();
     if size < 8 {

@@ -14,9 +14,9 @@ use Rattle.meaning.specs.Run.{upd}
 use Rattle.meaning.specs.Solve.{Values, assign, hereOf, lowerOf, solved, solve, blank}
 use Rattle.meaning.proofs.Numbers.{ltb-true, ltb-false, upd-same, upd-other}
 use Rattle.reply.specs.inner.Decode.{entriesOf, decoded}
-use Rattle.reply.specs.inner.Sound.{Sound}
+use Rattle.reply.specs.inner.Checked.{Checked}
 use Rattle.reply.proofs.Lists.{tab-at}
-use Rattle.reply.proofs.Round.{is-the, sound-of}
+use Rattle.reply.proofs.Round.{is-the, checked-of}
 use Rattle.whole.specs.Whole.{Heard, placeOf, sizeOf, partOf, Opened}
 use Rattle.solving.specs.inner.Values.{truths, valuesIn, RowPut, Agree, kept, answerOf}
 use Rattle.whole.specs.declared.Question.{Question}
@@ -89,8 +89,8 @@ rows-agree n r f v d v′ d′ a b p q x y = record {
 
 -- ---- the replies held
 module _ (q : Question) (used : ℕ) (store : Bytes) (o : Opened q used store) where
-  pub part-sound : (f : ℕ) → Heard q f → Sound 12 (partOf q store f)
-  part-sound f h = let w = o .laid .replies f h in sound-of 12 (partOf q store f) (w .reply) (w .free .is)
+  pub part-sound : (f : ℕ) → Heard q f → Checked 12 (partOf q store f)
+  part-sound f h = let w = o .laid .replies f h in checked-of 12 (partOf q store f) (w .reply) (w .free .is)
 
   entries-are : (f : ℕ) → Heard q f → entriesOf (partOf q store f) ≡ q .entries
   unfolding decoded
@@ -100,8 +100,8 @@ module _ (q : Question) (used : ℕ) (store : Bytes) (o : Opened q used store) w
   part-end f h = omega (arith, o .laid .tiled .inside f h, o .laid .fits)
 
   module _ (f : ℕ) (h : Heard q f) (p n : ℕ) (ep : p ≡ placeOf q f) (en : n ≡ sizeOf q f) where
-    pub sound-here : Sound 12 (take (p + n - p) (drop p store))
-    sound-here = subst (λ s. Sound 12 s) (sym (part-is q store f p n ep en)) (part-sound f h)
+    pub sound-here : Checked 12 (take (p + n - p) (drop p store))
+    sound-here = subst (λ s. Checked 12 s) (sym (part-is q store f p n ep en)) (part-sound f h)
 
     pub put-agree : (v e v′ e′ a b : List ℕ) → RowPut v f a v′ → RowPut e f b e′
         → a ≡ tabulated 32 0 (hereOf truths (entriesOf (take (p + n - p) (drop p store))) (decoded 12 (take (p + n - p) (drop p store))) (valuesIn v e))

@@ -17,7 +17,7 @@ use Rattle.meaning.proofs.Solve.{assign-V, assign-D}
 use Rattle.meaning.proofs.Numbers.{eqb-true, eqb-false}
 use Rattle.reply.specs.WellFormed.{vars, Operands, Result}
 use Rattle.reply.specs.inner.Decode.{refFrom, stepFrom, refAt, stepAt, entriesOf, insOf, stepsOf, inAt, decoded}
-use Rattle.reply.specs.inner.Sound.{Sound, RefOk, StepOk, RefGood, varsOf}
+use Rattle.reply.specs.inner.Checked.{Checked, RefOk, StepOk, RefGood, varsOf}
 use Rattle.reply.proofs.Lists.{tab-at, tab-length, tab-is, tab-same}
 use Rattle.reply.proofs.Fields.{ref-in, step-in}
 use Rattle.solving.specs.inner.Values.{truths, valuesIn, variableOf, rowOf}
@@ -33,7 +33,7 @@ pub record Small (s : List ℕ) : Type 0 where
   pub all-room : 60 + 5 * insOf s + 30 * stepsOf s + 14 * entriesOf s + 14 * entriesOf s ≤ 8 * length s
   pub short : 8 * length s < 200000
 
-pub small : (s : List ℕ) → Sound 12 s → Small s
+pub small : (s : List ℕ) → Checked 12 s → Small s
 small s h =
     let a = field-lt s 42 5 (omega (arith, h .head)) in
     let b = field-lt s 37 5 (omega (arith, h .head)) in
@@ -49,7 +49,7 @@ small s h =
     }
 
 -- ---- a variable
-module _ (s : List ℕ) (h : Sound 12 s) (n x : ℕ) (en : n ≡ entriesOf s) (l : x < varsOf s) where
+module _ (s : List ℕ) (h : Checked 12 s) (n x : ℕ) (en : n ≡ entriesOf s) (l : x < varsOf s) where
   pub pos : 0 < 2 * n
   pos = omega (arith, small s h .some-entry)
 
@@ -154,7 +154,7 @@ cond-yes a x y e = ap (λ b. cond b x y) (eqb-false a 0 e)
 abbrev pub stepsFrom : List ℕ → ℕ → ℕ → Step
 stepsFrom s at i = stepAt 12 s (at + 30 * i)
 
-pub operands-at : (s : List ℕ) → Sound 12 s → (i : ℕ) → i < stepsOf s → Operands (varsOf s) i (stepsFrom s (60 + 5 * insOf s) i)
+pub operands-at : (s : List ℕ) → Checked 12 s → (i : ℕ) → i < stepsOf s → Operands (varsOf s) i (stepsFrom s (60 + 5 * insOf s) i)
 operands-at s h i l = step-in 12 (varsOf s) i s (60 + 5 * insOf s + 30 * i) (omega (arith, small s h .steps-room)) (h .steps-good i l) .1
 
 -- ---- a row
@@ -181,7 +181,7 @@ row-is s v d vs n at out b l h z = tab-is (rowOf s v d vs n at) 0 out 32 l (λ j
     go j (no k) = z j (omega arith) ∙ ap (refValue truths (variableOf s v d) vs) (sym (past s at n j (omega arith)))
 
 -- ---- the whole reply
-module _ (s : List ℕ) (h : Sound 12 s) (v d vs : List ℕ)
+module _ (s : List ℕ) (h : Checked 12 s) (v d vs : List ℕ)
     (all : take (stepsOf s) vs ≡ stepValues truths (variableOf s v d) [] (decoded 12 s .steps)) where
   row-value : (at : ℕ) → at + 14 * entriesOf s ≤ 8 * length s → ((e : ℕ) → e < entriesOf s → RefGood 12 s (varsOf s) (stepsOf s) (at + 14 * e))
       → tabulated 32 0 (rowOf s v d vs (entriesOf s) at) ≡ tabulated 32 0 (λ e. value truths (variableOf s v d) (decoded 12 s .steps) (getD (refsFrom s at (entriesOf s)) e Ref.low))

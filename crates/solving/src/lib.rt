@@ -19,7 +19,7 @@ ghost use Rattle.meaning.specs.Formula.{refValue, stepValue, stepValues};
 ghost use Rattle.meaning.specs.Reply.{tabulated};
 ghost use Rattle.meaning.specs.Solve.{hereOf, lowerOf, solved};
 ghost use Rattle.reply.specs.inner.Decode.{refFrom, stepFrom, insTo, entriesOf, insOf, stepsOf, decoded};
-ghost use Rattle.reply.specs.inner.Sound.{Sound, RefOk, StepOk, RefGood, varsOf};
+ghost use Rattle.reply.specs.inner.Checked.{Checked, RefOk, StepOk, RefGood, varsOf};
 ghost use Rattle.whole.specs.Whole.{Heard, Opened, partOf};
 ghost use Rattle.solving.specs.inner.Values.{truths, valuesIn, variableOf, rowOf, RowPut, Agree, AllHeard, kept, answerOf};
 
@@ -37,7 +37,7 @@ struct Table {
 
 // The value of variable x of a reply with n entries.
 fn variable(s: &[u8], n: usize, x: usize, v: &[u8; 1024], d: &[u8; 1024]) -> u8
-    requires { ⌜ Sound 12 (now s) × (n ≡ entriesOf (now s)) × (x < varsOf (now s)) ⌝ }
+    requires { ⌜ Checked 12 (now s) × (n ≡ entriesOf (now s)) × (x < varsOf (now s)) ⌝ }
     ensures { λ r. ⌜ r ≡ variableOf (now (s .entry)) (now (v .entry)) (now (d .entry)) x ⌝ }
 {
     let p = x / (2 * n);
@@ -61,7 +61,7 @@ fn value(
     d: &[u8; 1024],
     values: &[u8; 4096],
 ) -> u8
-    requires { ⌜ Sound 12 (now s) × (n ≡ entriesOf (now s)) × (m ≤ 4096) × RefOk (varsOf (now s)) m kind x ⌝ }
+    requires { ⌜ Checked 12 (now s) × (n ≡ entriesOf (now s)) × (m ≤ 4096) × RefOk (varsOf (now s)) m kind x ⌝ }
     ensures { λ r. ⌜ r ≡ refValue truths (variableOf (now (s .entry)) (now (v .entry)) (now (d .entry))) (now (values .entry)) (refFrom kind x) ⌝ }
 {
     if kind == 2 {
@@ -86,7 +86,7 @@ fn step_value(
     d: &[u8; 1024],
     values: &[u8; 4096],
 ) -> u8
-    requires { ⌜ Sound 12 (now s) × (n ≡ entriesOf (now s)) × (m ≤ 4096) × StepOk (varsOf (now s)) m (t .op) (t .kind1) (t .number1) (t .kind2) (t .number2) ⌝ }
+    requires { ⌜ Checked 12 (now s) × (n ≡ entriesOf (now s)) × (m ≤ 4096) × StepOk (varsOf (now s)) m (t .op) (t .kind1) (t .number1) (t .kind2) (t .number2) ⌝ }
     ensures { λ r. ⌜ r ≡ stepValue truths (variableOf (now (s .entry)) (now (v .entry)) (now (d .entry))) (now (values .entry)) (stepFrom (t .op) (refFrom (t .kind1) (t .number1)) (refFrom (t .kind2) (t .number2))) ⌝ }
 {
     let a = value(s, n, m, t.kind1, t.number1, v, d, values);
@@ -118,7 +118,7 @@ fn step_values(
     v: &[u8; 1024],
     d: &[u8; 1024],
 ) -> [u8; 4096]
-    requires { ⌜ Sound 12 (now s) × (n ≡ entriesOf (now s)) × (m ≡ stepsOf (now s)) × (at ≡ insTo (insOf (now s))) ⌝ }
+    requires { ⌜ Checked 12 (now s) × (n ≡ entriesOf (now s)) × (m ≡ stepsOf (now s)) × (at ≡ insTo (insOf (now s))) ⌝ }
     ensures { λ r. ⌜ take (stepsOf (now (s .entry))) r ≡ stepValues truths (variableOf (now (s .entry)) (now (v .entry)) (now (d .entry))) [] (decoded 12 (now (s .entry)) .steps) ⌝ }
 {
     let mut values = [0u8; 4096];
@@ -144,7 +144,7 @@ fn results(
     d: &[u8; 1024],
     values: &[u8; 4096],
 ) -> [u8; 32]
-    requires { ⌜ Sound 12 (now s) × (n ≡ entriesOf (now s)) × (m ≡ stepsOf (now s)) × (at + 14 * n ≤ 8 * length (now s)) × ((e : _) → e < n → RefGood 12 (now s) (varsOf (now s)) m (at + 14 * e)) ⌝ }
+    requires { ⌜ Checked 12 (now s) × (n ≡ entriesOf (now s)) × (m ≡ stepsOf (now s)) × (at + 14 * n ≤ 8 * length (now s)) × ((e : _) → e < n → RefGood 12 (now s) (varsOf (now s)) m (at + 14 * e)) ⌝ }
     ensures { λ r. ⌜ r ≡ tabulated 32 0 (rowOf (now (s .entry)) (now (v .entry)) (now (d .entry)) (now (values .entry)) n at) ⌝ }
 {
     let mut out = [0u8; 32];
@@ -162,7 +162,7 @@ fn results(
 
 // V and D that the reply s gives, from those of the fragments that it stands for.
 fn solve(s: &[u8], v: &[u8; 1024], d: &[u8; 1024]) -> Row
-    requires { ⌜ Sound 12 (now s) ⌝ }
+    requires { ⌜ Checked 12 (now s) ⌝ }
     ensures { λ r. ⌜ (r .v ≡ tabulated 32 0 (hereOf truths (entriesOf (now (s .entry))) (decoded 12 (now (s .entry))) (valuesIn (now (v .entry)) (now (d .entry))))) × (r .d ≡ tabulated 32 0 (lowerOf truths (entriesOf (now (s .entry))) (decoded 12 (now (s .entry))) (valuesIn (now (v .entry)) (now (d .entry))))) ⌝ }
 {
     let h = header(s);

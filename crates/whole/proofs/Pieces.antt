@@ -2,7 +2,6 @@
 use Prim.Native.Nat.{ℕ, _+_, _-_, _≤_, _<_}
 use mathlib.Core.Path.{_≡_, refl, sym, ap, _∙_, subst}
 use mathlib.Core.Bool.{Bool}
-use mathlib.Core.Option.{Option, none, some}
 use mathlib.Core.List.{List, List·Memᴰ}
 use mathlib.Core.Logic.{_⊎_, ⊎-elim, _≢_}
 use native.Mathlib.Omega.{arith}
@@ -13,11 +12,11 @@ use Rattle.meaning.specs.Bytes.{Bytes}
 use Rattle.meaning.specs.Reply.{Reply}
 use Rattle.meaning.specs.Register.{parentOf, Layout, childrenOf}
 use Rattle.meaning.proofs.Says.{says-iff}
-use Rattle.reply.specs.Read.{Is}
-use Rattle.reply.specs.inner.Decode.{inAt, read}
-use Rattle.reply.specs.inner.Fields.{HeadIs, verdict}
+use Rattle.reply.specs.Read.{Is, Checks}
+use Rattle.reply.specs.inner.Decode.{inAt}
+use Rattle.reply.specs.inner.Fields.{HeadIs}
 use Rattle.reply.specs.declared.Head.{Head}
-use Rattle.reply.proofs.Round.{Fields, fields-of, check-reply, check-none, is-the, sound-of}
+use Rattle.reply.proofs.Round.{Fields, fields-of, is-the, checked-of}
 use Rattle.meaning.specs.Refused.{refused, passed, granted}
 use Rattle.whole.specs.Whole.{layoutOf, Rules, Shaped, Free, Heard, placeOf, sizeOf, partOf, Own, Laid, Opened, Whole, closed, opened}
 use Rattle.whole.specs.inner.Steps.{StandsFor, Judged, Starts, PartOk, FragmentOk}
@@ -31,15 +30,13 @@ use Rattle.whole.proofs.Children.{mem-place, place-mem, child-has, has-
 pub one-of : (s : Bytes) (r t : Reply) → Is 12 s r → Is 12 s t → r ≡ t
 one-of s r t a b = is-the 12 s r a ∙ sym (is-the 12 s t b)
 
-pub passed-check : {s : Bytes} {c : ℕ} → c ≡ verdict (read 12 s) → c ≡ 0 → (r : Reply) × Is 12 s r
-passed-check {s} v e = check-reply s (sym e ∙ v)
+pub passed-check : {s : Bytes} {c : ℕ} → Checks s c → c ≡ 0 → (r : Reply) × Is 12 s r
+passed-check (refused h) e = absurd (omega arith)
+passed-check (passed t granted) e = t
 
-pub failed-check : {q : Question} {s : Bytes} {c : ℕ} → c ≡ verdict (read 12 s) → c ≢ 0 → Judged q s 13
-failed-check {q} {s} {c} v n = go (read 12 s) refl
-  where
-    go : (o : Option Reply) → read 12 s ≡ o → Judged q s 13
-    go none e = refused (λ t. check-none s (sym (ap verdict e)) (t .0) (t .1))
-    go (some r) e = absurd (n (v ∙ ap verdict e))
+pub failed-check : {q : Question} {s : Bytes} {c : ℕ} → Checks s c → c ≢ 0 → Judged q s 13
+failed-check (refused h) n = refused h
+failed-check (passed t granted) n = absurd (n refl)
 
 module _ (q : Question) (s : Bytes) (r : Reply) (i : Is 12 s r) (h : Head) (H : HeadIs s h) where
   f : Fields 12 s r
@@ -122,7 +119,7 @@ pub part-is : (q : Question) (store : Bytes) (f p n : ℕ) → p ≡ placeOf q f
 part-is q store f p n ep en = let e : p + n - p ≡ n = omega arith in rw (e, ep, en) refl
 
 pub long-enough : {q : Question} {s : Bytes} {c : ℕ} → Judged q s c → c ≡ 0 → 8 ≤ length s
-long-enough {q} {s} j e = let t = judged-free j e in omega (arith, sound-of 12 s (t .0) (t .1 .is) .head)
+long-enough {q} {s} j e = let t = judged-free j e in omega (arith, checked-of 12 s (t .0) (t .1 .is) .head)
 
 part-good : (q : Question) (used : ℕ) (store : Bytes) (f c : ℕ) (h : Head) {b : Bool} → Judged q (partOf q store f) c → c ≡ 0 → HeadIs (partOf q store f) h
     → placeOf q f + sizeOf q f ≤ used → Says (h .fragment ≡ f) b → Says (PartOk q used store f) b
@@ -152,7 +149,7 @@ rules-says q L e few one most k =
 -- ---- the whole store
 some-size : (q : Question) (store : Bytes) (f : ℕ) → Own q store f → 0 < sizeOf q f
 some-size q store f o =
-    let h = sound-of 12 (partOf q store f) (o .reply) (o .free .is) in
+    let h = checked-of 12 (partOf q store f) (o .reply) (o .free .is) in
     omega (arith, h .head, length-take (sizeOf q f) (drop (placeOf q f) store), min-le-left (sizeOf q f) (length (drop (placeOf q f) store)))
 
 module _ (q : Question) (used : ℕ) (store : Bytes) where

@@ -5,9 +5,9 @@ use mathlib.Core.Path.{_≡_, refl, sym, _∙_}
 use mathlib.Core.Bool.{false}
 use mathlib.Core.List.{List, _++_, append-assoc}
 use lib.ListN.{length, replicate}
-use Rattle.bits.specs.Bits.{digits, Wrote}
+use Rattle.bits.specs.Bits.{digits}
+use Rattle.bits.specs.Fields.{Wrote, Octets}
 use Rattle.bits.proofs.Laws.{wrote-append}
-use Rattle.bits.specs.Bits.{Octets}
 use Rattle.bits.proofs.Packed.{bytesOf-length, written}
 use Rattle.meaning.specs.Reply.{Reply}
 use Rattle.reply.specs.Write.{refBits, stepBits, each, headBits, replyBits, write}
@@ -33,18 +33,18 @@ module _ (w number fragment entries : ℕ) (rows work : List ℕ) (from steps v 
   unfolding replyIn
   count = bits-length w r (refs-count work v entries) (refs-count work d entries) ∙ rw (steps-count work from steps) refl
 
-  pub reply-written : {old one two new : List ℕ} {p q size : ℕ} → Octets old → Octets new
+  pub reply-written : {old one two new : List ℕ} {p q to size : ℕ} → Octets old → Octets new
       → Wrote old one 0 p (headBits number fragment entries (length (rowIns rows)) steps ++ each (digits 5) (rowIns rows))
       → Wrote one two p q (each (stepBits w) (stepsAt work from steps) ++ (each (refBits w) (refsAt work v entries) ++ each (refBits w) (refsAt work d entries)))
-      → q ≡ endOf w (length (rowIns rows)) steps entries → size ≡ (q + 7) / 8 → Wrote two new q (8 * size) (replicate (8 * size - q) false)
+      → Wrote two new q to (replicate (to - q) false) → q ≡ endOf w (length (rowIns rows)) steps entries → size ≡ (q + 7) / 8 → to ≡ 8 * size
       → Written w r old new size
   unfolding replyIn replyBits write
-  reply-written {old} {one} {two} {new} {p} {q} {size} oo on a b e s z =
+  reply-written {old} {one} {two} {new} {p} {q} {to} {size} oo on a b z e s f =
       let l : length (replyBits w r) ≡ q = count ∙ sym e in
-      let all : Wrote old new 0 (8 * size) (replyBits w r ++ replicate (8 * size - length (replyBits w r)) false) =
+      let all : Wrote old new 0 to (replyBits w r ++ replicate (to - length (replyBits w r)) false) =
       rw (l, steps-count work from steps, ← append-assoc) (wrote-append (wrote-append a b) z) in
       record {
-        bytes = written (replyBits w r) old new (8 * size) oo on (omega arith) all;
+        bytes = written (replyBits w r) old new to oo on (omega arith) all;
         size-is = s ∙ sym (bytesOf-length (replyBits w r) ∙ rw l refl);
       }
 

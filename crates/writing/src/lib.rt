@@ -6,11 +6,11 @@ ghost use mathlib.Core.List.{_++_};
 ghost use Prim.Native.Nat.{_+_, _*_, _^_, _≤_, _<_};
 ghost use lib.ListN.{length, getD};
 ghost use Rattle.meaning.specs.Fragment.{num, rowCount};
-ghost use Rattle.bits.specs.Bits.{digits, Wrote};
+ghost use Rattle.bits.specs.Bits.{digits};
+ghost use Rattle.bits.specs.Fields.{Wrote};
 ghost use Rattle.reply.specs.Write.{refBits, stepBits, each, headBits};
 ghost use Rattle.reply.specs.inner.Decode.{refWidth, stepWidth, insTo, size, stepFrom};
-ghost use Rattle.writing.specs.inner.Codes.{refOf, refsAt, stepsAt, RefCode, StepCode, FormulaIn, FrontIn, bare, rowIn, rowIns, replyIn};
-ghost use Rattle.writing.specs.inner.Codes.{Written};
+ghost use Rattle.writing.specs.inner.Codes.{refOf, refsAt, stepsAt, RefCode, StepCode, FormulaIn, FrontIn, bare, rowIn, rowIns, replyIn, Written};
 
 // How many bytes a reply of these counts has.
 pub fn reply_size(w: usize, entries: usize, ins: usize, steps: usize) -> usize

@@ -3,8 +3,9 @@ use borrow.Author.Needs.{needs}
 use native.Mathlib.Omega.{arith}
 use native.Mathlib.Nat.{le-trans, mod-le}
 use Prim.Native.Nat.{_-_, _/_, _%_, _<_}
+use mathlib.Core.Path.{refl}
 use lib.ListN.{getD}
-use Rattle.bits.proofs.Byte.{old-le, patched-lt, patch-code, wrote-at}
+use Rattle.bits.proofs.Byte.{old-le, code-fits, wrote-at}
 use Rattle.bits.proofs.set_bit.Statement.{statement}
 use Rattle.bits.proofs.set_bit.Tie as tie
 
@@ -43,8 +44,7 @@ add-buf c =
     let x = getD (a .buf .now) (a .at / 8) 0 in
     let z = 7 - a .at % 8 in
     let hx : x < 256 = omega (arith, c .slice-known .given (a .at / 8)) in
-    rw (patch-code x 1 z (a .b) (a .at % 8) (omega arith) hx (c .before .pre .1) 256 (omega arith))
-    (record { fits = patched-lt x 1 z (a .b) (a .at % 8) (omega arith) hx (c .before .pre .1) })
+    record { fits = code-fits x 1 z _ (a .at % 8) (omega arith) hx (omega arith) _ refl }
 
 slice-write-buf : tie.Need-slice-write-buf
 slice-write-buf c = search needs
@@ -58,8 +58,7 @@ returns c =
     let x = getD (a .buf .now) (a .at / 8) 0 in
     let z = 7 - a .at % 8 in
     let hx : x < 256 = omega (arith, c .slice-known .given (a .at / 8)) in
-    rw (patch-code x 1 z (a .b) (a .at % 8) (omega arith) hx (c .before .pre .1) 256 (omega arith))
-    (wrote-at (a .buf .now) (a .at) 1 z (a .b) (omega arith) (c .before .pre .0) (c .before .pre .1))
+    wrote-at (a .buf .now) (a .at) 1 z (a .b) _ _ (omega arith) (c .before .pre .0) hx (c .before .pre .1) refl (omega arith)
 
 pub set-bit-spec : {M : Type 1} → statement M
 set-bit-spec =

@@ -1,8 +1,8 @@
 -- `reply::header` meets its contract.
 use mathlib.Core.Path.{_≡_, refl}
 use native.Mathlib.Omega.{arith}
-use Rattle.bits.specs.Bits.{fieldAt}
-use Rattle.reply.proofs.Judge.{head-of}
+use Rattle.bits.specs.Fields.{fieldAt}
+use Rattle.reply.proofs.Judge.{read-at, head-of}
 use borrow.Author.Needs.{needs}
 use Rattle.reply.proofs.header.Statement.{statement}
 use Rattle.reply.proofs.header.Tie as tie
@@ -45,9 +45,11 @@ returns c =
     let p2 : t1 .result .next .at ≡ 32 = omega (arith, t1 .ensures .1) in
     let p3 : t2 .result .next .at ≡ 37 = omega (arith, t2 .ensures .1, p2) in
     let p4 : t3 .result .next .at ≡ 42 = omega (arith, t3 .ensures .1, p3) in
-    let p5 : t4 .result .next .at ≡ 47 = omega (arith, t4 .ensures .1, p4) in
-    let e3 : t3 .result .value ≡ fieldAt s 37 5 = rw p3 at (t3 .ensures .0) in
-    head-of s _ (c .before .before .before .before .before .before .before .before .before .pre) (t1 .ensures .0) (rw p2 at (t2 .ensures .0)) (rw e3 refl) (rw p4 at (t4 .ensures .0)) (rw p5 at (t5 .ensures .0))
+    let p5 : t4 .result .next .at ≡ 47 = omega (arith, t4 .ensures .1) in
+    let e3 : t3 .result .value ≡ fieldAt s 37 5 = read-at s _ 37 5 _ (t3 .ensures .0) (omega (arith, p3)) in
+    head-of s _ (c .before .before .before .before .before .before .before .before .before .pre)
+    (t1 .ensures .0) (read-at s _ 32 5 _ (t2 .ensures .0) (omega (arith, p2))) (rw e3 refl)
+    (read-at s _ 42 5 _ (t4 .ensures .0) (omega (arith, p4))) (read-at s _ 47 13 _ (t5 .ensures .0) (omega (arith, p5)))
 
 pub header-spec : {M : Type 1} → statement M
 header-spec =

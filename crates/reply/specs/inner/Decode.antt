@@ -4,7 +4,8 @@ use mathlib.Core.Bool.{Bool, true, false, not, _&&_, cond}
 use mathlib.Core.Option.{Option, none, some}
 use lib.ListN.{length, getD}
 use lib.Dec.{eqb, ltb, leb}
-use Rattle.bits.specs.Bits.{bytesFor, fieldAt}
+use Rattle.bits.specs.Bits.{bytesFor}
+use Rattle.bits.specs.Fields.{fieldAt}
 use Rattle.meaning.specs.Bytes.{Bytes, sameBytes}
 use Rattle.meaning.specs.Formula.{Ref, Step}
 use Rattle.meaning.specs.Reply.{Reply, tabulated}

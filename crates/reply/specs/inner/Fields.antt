@@ -1,24 +1,13 @@
--- What the functions answer.
+-- What inner functions read: the fields at a place, and the bounds that the width gives.
 use Prim.Native.Nat.{ℕ, _+_, _^_, _≤_, _<_}
 use mathlib.Core.Path.{_≡_}
-use mathlib.Core.List.{_++_}
-use lib.ListN.{length, drop}
-use mathlib.Core.Option.{Option, none, some}
-use Rattle.bits.specs.Bits.{fieldAt}
+use Rattle.bits.specs.Fields.{fieldAt}
 use Rattle.meaning.specs.Bytes.{Bytes}
-use Rattle.meaning.specs.Reply.{Reply}
-use Rattle.reply.specs.Write.{write}
 use Rattle.reply.specs.inner.Decode.{refWidth, numberOf, fragmentOf, entriesOf, insOf, stepsOf, inAt}
 use Rattle.reply.specs.declared.Head.{Head}
 use Rattle.reply.specs.declared.RefField.{RefField}
 use Rattle.reply.specs.declared.StepField.{StepField}
 
--- THE CHECK'S ANSWER: 0 for a reply, else 13
-abbrev pub verdict : Option Reply → ℕ
-verdict none = 13
-verdict (some r) = 0
-
--- what inner functions read: the fields at a place, and the bounds that the width gives
 pub record HeadIs (s : Bytes) (h : Head) : Type 0 where
   pub number-is : h .number ≡ numberOf s
   pub fragment-is : h .fragment ≡ fragmentOf s

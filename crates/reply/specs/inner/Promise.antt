@@ -14,8 +14,8 @@ use Rattle.reply.specs.declared.RefField.{RefField}
 use Rattle.reply.specs.declared.StepField.{StepField}
 
 -- the tests that `read` makes say what `WellFormed` and `Fits` say
-abbrev pub Judged : Type 0
-Judged = (w : ℕ) (r : Reply) → Says (WellFormed r) (wellFormed r) × Says (Fits w r) (fits w r)
+abbrev pub ReadTests : Type 0
+ReadTests = (w : ℕ) (r : Reply) → Says (WellFormed r) (wellFormed r) × Says (Fits w r) (fits w r)
 
 -- how many bytes a reply has
 abbrev pub SizeIs : Type 0

@@ -8,7 +8,7 @@ use lib.ListN.{length, take, length-set}
 use Rattle.meaning.specs.Formula.{stepValue, stepValues}
 use Rattle.meaning.specs.Reply.{tabulated}
 use Rattle.reply.specs.inner.Decode.{stepsOf, decoded}
-use Rattle.reply.specs.inner.Sound.{varsOf}
+use Rattle.reply.specs.inner.Checked.{varsOf}
 use Rattle.solving.specs.inner.Values.{truths, variableOf}
 use Rattle.solving.proofs.Replies.{small, stepsFrom, operands-at}
 use Rattle.solving.proofs.Formulas.{no-steps, values-more}

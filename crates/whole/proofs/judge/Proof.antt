@@ -2,7 +2,7 @@
 use mathlib.Core.Path.{_∙_}
 use native.Mathlib.Omega.{arith}
 use Rattle.reply.proofs.Tests.{says-yes, says-no}
-use Rattle.reply.proofs.Round.{sound-of}
+use Rattle.reply.proofs.Round.{checked-of}
 use Rattle.whole.proofs.Pieces.{passed-check, failed-check, wrong-number, misfit, fragment-is, entries-is, shape-only, shape-all, well, front-is}
 use borrow.Author.Needs.{needs}
 use Rattle.whole.proofs.judge.Statement.{statement}
@@ -15,7 +15,7 @@ returns : tie.Need-returns
 returns c = failed-check (c .before .reply-check .ensures) (c .if1 .taken)
 
 header-requires : tie.Need-header-requires
-header-requires c κs = let t = passed-check (c .before .reply-check .ensures) (c .if1 .left) in omega (arith, sound-of 12 (c .before .before .before .args .s .now) (t .0) (t .1) .head)
+header-requires c κs = let t = passed-check (c .before .reply-check .ensures) (c .if1 .left) in omega (arith, checked-of 12 (c .before .before .before .args .s .now) (t .0) (t .1) .head)
 
 cast-f : tie.Need-cast-f
 cast-f c = search needs
@@ -42,7 +42,7 @@ part-only-children-end : tie.Need-part-only-children-end
 part-only-children-end c = omega (arith, c .before .parents .ensures .1, c .before .before .before .before .before .before .before .before .before .before .before .before .before .before .pre)
 
 only-children-requires : tie.Need-only-children-requires
-only-children-requires c κs = let t = passed-check (c .before .before .before .before .before .before .before .before .before .before .before .before .before .reply-check .ensures) (c .before .before .before .before .before .before .before .before .before .before .before .before .if1 .left) in omega (arith, sound-of 12 (c .before .before .before .before .before .before .before .before .before .before .before .before .before .before .before .args .s .now) (t .0) (t .1) .room, c .before .before .before .before .before .before .before .before .before .before .before .header .ensures .ins-is, c .before .before .before .before .before .before .before .before .before .before .before .header .ensures .ins-lt)
+only-children-requires c κs = let t = passed-check (c .before .before .before .before .before .before .before .before .before .before .before .before .before .reply-check .ensures) (c .before .before .before .before .before .before .before .before .before .before .before .before .if1 .left) in omega (arith, checked-of 12 (c .before .before .before .before .before .before .before .before .before .before .before .before .before .before .before .args .s .now) (t .0) (t .1) .room, c .before .before .before .before .before .before .before .before .before .before .before .header .ensures .ins-is, c .before .before .before .before .before .before .before .before .before .before .before .header .ensures .ins-lt)
 
 returns-5 : tie.Need-returns-5
 returns-5 c = misfit (c .before .before .before .before .before .before .before .before .before .before .before .before .before .before .before .before .before .args .q) (c .before .before .before .before .before .before .before .before .before .before .before .before .before .before .before .before .before .args .s .now) (passed-check (c .before .before .before .before .before .before .before .before .before .before .before .before .before .before .before .reply-check .ensures) (c .before .before .before .before .before .before .before .before .before .before .before .before .before .before .if1 .left) .0) (passed-check (c .before .before .before .before .before .before .before .before .before .before .before .before .before .before .before .reply-check .ensures) (c .before .before .before .before .before .before .before .before .before .before .before .before .before .before .if1 .left) .1) (c .before .before .before .before .before .before .before .before .before .before .before .before .before .header .result) (c .before .before .before .before .before .before .before .before .before .before .before .before .before .header .ensures) (c .before .before .before .before .before .before .before .before .before .if2 .left) (λ p. says-no (c .before .only-children .ensures) (c .if5 .taken) (shape-only (c .before .before .before .before .before .before .before .before .before .before .before .before .before .before .before .before .before .args .q) (c .before .before .before .before .before .before .before .before .before .before .before .before .before .before .before .before .before .args .s .now) (passed-check (c .before .before .before .before .before .before .before .before .before .before .before .before .before .before .before .reply-check .ensures) (c .before .before .before .before .before .before .before .before .before .before .before .before .before .before .if1 .left) .0) (passed-check (c .before .before .before .before .before .before .before .before .before .before .before .before .before .before .before .reply-check .ensures) (c .before .before .before .before .before .before .before .before .before .before .before .before .before .before .if1 .left) .1) (c .before .before .before .before .before .before .before .before .before .before .before .before .before .header .result) (c .before .before .before .before .before .before .before .before .before .before .before .before .before .header .ensures) _ (front-is (c .before .before .before .before .before .before .before .before .before .before .before .before .before .before .before .before .before .args .q .parts) (c .before .before .before .before .parents .result) (c .before .before .before .before .before .before .before .before .before .before .before .before .before .before .before .before .before .args .q .layout) (c .before .before .before .before .parents .ensures .0)) p))
@@ -57,7 +57,7 @@ part-all-children-end : tie.Need-part-all-children-end
 part-all-children-end c = omega (arith, c .before .before .before .before .before .parents .ensures .1, c .before .before .before .before .before .before .before .before .before .before .before .before .before .before .before .before .before .before .pre)
 
 all-children-requires : tie.Need-all-children-requires
-all-children-requires c κs = let t = passed-check (c .before .before .before .before .before .before .before .before .before .before .before .before .before .before .before .before .before .reply-check .ensures) (c .before .before .before .before .before .before .before .before .before .before .before .before .before .before .before .before .if1 .left) in omega (arith, sound-of 12 (c .before .before .before .before .before .before .before .before .before .before .before .before .before .before .before .before .before .before .before .args .s .now) (t .0) (t .1) .room, c .before .before .before .before .before .before .before .before .before .before .before .before .before .before .before .header .ensures .ins-is, c .before .before .before .before .before .before .before .before .before .before .before .before .before .before .before .header .ensures .ins-lt)
+all-children-requires c κs = let t = passed-check (c .before .before .before .before .before .before .before .before .before .before .before .before .before .before .before .before .before .reply-check .ensures) (c .before .before .before .before .before .before .before .before .before .before .before .before .before .before .before .before .if1 .left) in omega (arith, checked-of 12 (c .before .before .before .before .before .before .before .before .before .before .before .before .before .before .before .before .before .before .before .args .s .now) (t .0) (t .1) .room, c .before .before .before .before .before .before .before .before .before .before .before .before .before .before .before .header .ensures .ins-is, c .before .before .before .before .before .before .before .before .before .before .before .before .before .before .before .header .ensures .ins-lt)
 
 returns-6 : tie.Need-returns-6
 returns-6 c = misfit (c .before .before .before .before .before .before .before .before .before .before .before .before .before .before .before .before .before .before .before .before .before .args .q) (c .before .before .before .before .before .before .before .before .before .before .before .before .before .before .before .before .before .before .before .before .before .args .s .now) (passed-check (c .before .before .before .before .before .before .before .before .before .before .before .before .before .before .before .before .before .before .before .reply-check .ensures) (c .before .before .before .before .before .before .before .before .before .before .before .before .before .before .before .before .before .before .if1 .left) .0) (passed-check (c .before .before .before .before .before .before .before .before .before .before .before .before .before .before .before .before .before .before .before .reply-check .ensures) (c .before .before .before .before .before .before .before .before .before .before .before .before .before .before .before .before .before .before .if1 .left) .1) (c .before .before .before .before .before .before .before .before .before .before .before .before .before .before .before .before .before .header .result) (c .before .before .before .before .before .before .before .before .before .before .before .before .before .before .before .before .before .header .ensures) (c .before .before .before .before .before .before .before .before .before .before .before .before .before .if2 .left) (λ p. says-no (c .before .all-children .ensures) (c .if6 .taken) (shape-all (c .before .before .before .before .before .before .before .before .before .before .before .before .before .before .before .before .before .before .before .before .before .args .q) (c .before .before .before .before .before .before .before .before .before .before .before .before .before .before .before .before .before .before .before .before .before .args .s .now) (passed-check (c .before .before .before .before .before .before .before .before .before .before .before .before .before .before .before .before .before .before .before .reply-check .ensures) (c .before .before .before .before .before .before .before .before .before .before .before .before .before .before .before .before .before .before .if1 .left) .0) (passed-check (c .before .before .before .before .before .before .before .before .before .before .before .before .before .before .before .before .before .before .before .reply-check .ensures) (c .before .before .before .before .before .before .before .before .before .before .before .before .before .before .before .before .before .before .if1 .left) .1) (c .before .before .before .before .before .before .before .before .before .before .before .before .before .before .before .before .before .header .result) (c .before .before .before .before .before .before .before .before .before .before .before .before .before .before .before .before .before .header .ensures) _ (front-is (c .before .before .before .before .before .before .before .before .before .before .before .before .before .before .before .before .before .before .before .before .before .args .q .parts) (c .before .before .before .before .before .before .before .before .parents .result) (c .before .before .before .before .before .before .before .before .before .before .before .before .before .before .before .before .before .before .before .before .before .args .q .layout) (c .before .before .before .before .before .before .before .before .parents .ensures .0)) p))

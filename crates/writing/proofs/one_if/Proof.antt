@@ -1,4 +1,4 @@
--- `reply::writing::one_if` meets its contract.
+-- `writing::one_if` meets its contract.
 use mathlib.Core.Path.{refl}
 use Rattle.writing.proofs.Codes.{row-other, row-one}
 use Rattle.writing.proofs.one_if.Statement.{statement}

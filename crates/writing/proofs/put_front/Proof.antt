@@ -1,4 +1,4 @@
--- `reply::writing::put_front` meets its contract.
+-- `writing::put_front` meets its contract.
 use native.Mathlib.Omega.{arith}
 use Rattle.bits.proofs.Laws.{wrote-append}
 use borrow.Author.Needs.{needs}

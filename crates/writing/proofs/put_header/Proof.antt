@@ -1,4 +1,4 @@
--- `reply::writing::put_header` meets its contract.
+-- `writing::put_header` meets its contract.
 use mathlib.Core.Path.{refl}
 use native.Mathlib.Omega.{arith}
 use Rattle.bits.proofs.Laws.{wrote-append}

@@ -1,9 +1,10 @@
--- `reply::writing::put_ins` meets its contract.
+-- `writing::put_ins` meets its contract.
 use Prim.Native.Nat.{_+_, _-_, _*_, _≤_, _<_}
 use mathlib.Core.Path.{_≡_}
 use native.Mathlib.Omega.{arith}
 use lib.ListN.{length}
-use Rattle.bits.specs.Bits.{digits, Wrote}
+use Rattle.bits.specs.Bits.{digits}
+use Rattle.bits.specs.Fields.{Wrote}
 use Rattle.bits.proofs.Laws.{wrote-none, wrote-append}
 use Rattle.reply.specs.Write.{each}
 use Rattle.writing.specs.inner.Codes.{bare}

@@ -1,8 +1,8 @@
--- `reply::writing::put_refs` meets its contract.
+-- `writing::put_refs` meets its contract.
 use Prim.Native.Nat.{_+_, _-_, _*_, _≤_, _<_}
 use mathlib.Core.Path.{_≡_}
 use native.Mathlib.Omega.{arith}
-use Rattle.bits.specs.Bits.{Wrote}
+use Rattle.bits.specs.Fields.{Wrote}
 use Rattle.bits.proofs.Laws.{wrote-none, wrote-append}
 use Rattle.reply.specs.Write.{refBits, each}
 use Rattle.reply.specs.inner.Decode.{refWidth}

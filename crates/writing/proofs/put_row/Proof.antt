@@ -1,4 +1,4 @@
--- `reply::writing::put_row` meets its contract.
+-- `writing::put_row` meets its contract.
 use native.Mathlib.Omega.{arith}
 use Rattle.bits.proofs.Laws.{wrote-none}
 use Rattle.writing.proofs.Codes.{row-other, row-one, rows-none, rows-one}

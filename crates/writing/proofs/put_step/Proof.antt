@@ -1,4 +1,4 @@
--- `reply::writing::put_step` meets its contract.
+-- `writing::put_step` meets its contract.
 use native.Mathlib.Omega.{arith}
 use Rattle.bits.proofs.Laws.{wrote-append}
 use Rattle.writing.proofs.Codes.{step-code}

@@ -1,4 +1,4 @@
--- `reply::writing::reply_size` meets its contract.
+-- `writing::reply_size` meets its contract.
 use native.Mathlib.Omega.{arith}
 use Rattle.writing.proofs.Codes.{parts-most}
 use borrow.Author.Needs.{needs}

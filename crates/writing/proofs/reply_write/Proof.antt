@@ -1,5 +1,4 @@
--- `reply::writing::reply_write` meets its contract.
-use mathlib.Core.Path.{refl}
+-- `writing::reply_write` meets its contract.
 use native.Mathlib.Omega.{arith}
 use Rattle.writing.proofs.Codes.{parts-most}
 use Rattle.writing.proofs.Whole.{reply-written}
@@ -46,7 +45,7 @@ returns c =
     let f = c .before .before .before .before .before .before .before .before .before .before .put-front .ensures in
     let g = c .before .before .before .before .before .before .put-formula .ensures in
     let z = c .before .before .pad .ensures in
-    reply-written (a .w) (a .number) (a .fragment) (a .entries) (a .rows .now) (a .work .now) (a .from) (a .steps) (a .v) (a .d) (λ i. c .before .before .before .before .before .before .before .before .before .before .before .before .before .before .slice-known .given i .fits) (λ i. c .slice-known4 .given i .fits) (f .0) (g .0) (omega (arith, f .1, g .1)) refl (z .0)
+    reply-written (a .w) (a .number) (a .fragment) (a .entries) (a .rows .now) (a .work .now) (a .from) (a .steps) (a .v) (a .d) (λ i. c .before .before .before .before .before .before .before .before .before .before .before .before .before .before .slice-known .given i .fits) (λ i. c .slice-known4 .given i .fits) (f .0) (g .0) (z .0) (omega (arith, f .1, g .1)) (omega arith) (omega arith)
 
 pub reply-write-spec : {M : Type 1} → statement M
 reply-write-spec =

@@ -1,4 +1,4 @@
--- `reply::writing::stand_ins` meets its contract.
+-- `writing::stand_ins` meets its contract.
 use borrow.Author.Needs.{needs}
 use Prim.Native.Nat.{_-_, _≤_}
 use mathlib.Core.Path.{_≡_, refl}

@@ -2,23 +2,25 @@
 use native.Mathlib.Nat.{sub-self}
 use mathlib.Core.Bool.{false}
 use lib.ListN.{replicate}
-use Rattle.bits.specs.Bits.{digits, fieldAt, Holds}
+use Rattle.bits.specs.Bits.{digits}
+use Rattle.bits.specs.Fields.{fieldAt}
+use Rattle.bits.specs.inner.Stand.{BitsStand}
 use Rattle.bits.proofs.Digits.{zeros-more}
-use Rattle.bits.proofs.Laws.{holds-none, holds-append, field-holds, blank-bit}
+use Rattle.bits.proofs.Laws.{stand-none, stand-append, field-stand, field-lt, blank-bit}
 use Prim.Native.Nat.{ℕ, _+_, _-_, _≤_}
-use mathlib.Core.Path.{_≡_, refl, sym, _∙_}
+use mathlib.Core.Path.{_≡_, refl}
 use native.Mathlib.Omega.{arith}
 use Rattle.bits.proofs.Cursor.blank.Statement.{statement}
 use Rattle.bits.proofs.Cursor.blank.Tie as tie
 
 abbrev Inv-loop : tie.InvT-loop
-Inv-loop s to at₀ at = (at₀ ≤ at) × (at ≤ to) × Holds s at₀ at (replicate (at - at₀) false)
+Inv-loop s to at₀ at = (at₀ ≤ at) × (at ≤ to) × BitsStand s at₀ at (replicate (at - at₀) false)
 
 abbrev μ-loop : tie.MeasureT-loop
 μ-loop s to at₀ at = to - at
 
 loop-holds : tie.Need-loop-holds Inv-loop μ-loop
-loop-holds c = (omega arith, omega arith, rw sub-self (holds-none _ _ (omega arith)))
+loop-holds c = (omega arith, omega arith, rw sub-self (stand-none _ _ (omega arith)))
 
 bit-requires : tie.Need-bit-requires Inv-loop μ-loop
 bit-requires c κs = omega arith
@@ -30,7 +32,7 @@ returns c =
     let k = l .loop .at - a .self .at in
     let e : a .self .at + k ≡ l .loop .at = omega arith in (
       (λ e. let z : _≡_ {A = ℕ} 0 1 = cc in absurd (omega arith)),
-      (λ h. absurd (c .if1 .taken (c .before .bit .ensures ∙ (rw e at (blank-bit (a .to - a .self .at) k (omega arith) h))))),
+      (λ h. absurd (omega (arith, c .if1 .taken, c .before .bit .ensures, rw e at (blank-bit (a .to - a .self .at) k (omega arith) h)))),
     )
 
 add-at : tie.Need-add-at Inv-loop μ-loop
@@ -44,12 +46,12 @@ loop-again c =
     let l = c .before .before .before in
     let a = l .before .before .args in
     let e : l .loop .at + 1 - a .self .at ≡ l .loop .at - a .self .at + 1 = omega arith in
-    let z : fieldAt (a .s .now) (l .loop .at) 1 ≡ 0 = sym (c .before .bit .ensures) ∙ c .if1 .left in
-    let here : Holds (a .s .now) (l .loop .at) (l .loop .at + 1) (digits 1 0) = rw z at (field-holds (a .s .now) (l .loop .at) 1 (omega arith)) in (
+    let z : fieldAt (a .s .now) (l .loop .at) 1 ≡ 0 = omega (arith, c .if1 .left, c .before .bit .ensures, field-lt (a .s .now) (l .loop .at) 1 (omega arith)) in
+    let here : BitsStand (a .s .now) (l .loop .at) (l .loop .at + 1) (digits 1 0) = rw z at (field-stand (a .s .now) (l .loop .at) 1 (omega arith)) in (
       omega arith,
       omega arith,
       rw (e, zeros-more (l .loop .at - a .self .at) 1)
-          (holds-append (l .loop .inv .2) here),
+          (stand-append (l .loop .inv .2) here),
     )
 
 returns-2 : tie.Need-returns-2 Inv-loop μ-loop

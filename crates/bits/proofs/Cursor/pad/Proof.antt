@@ -2,7 +2,7 @@
 use native.Mathlib.Nat.{sub-self}
 use mathlib.Core.Bool.{false}
 use lib.ListN.{replicate}
-use Rattle.bits.specs.Bits.{Wrote}
+use Rattle.bits.specs.Fields.{Wrote}
 use Rattle.bits.proofs.Digits.{zeros-more}
 use Rattle.bits.proofs.Laws.{wrote-none, wrote-append}
 use Prim.Native.Nat.{_+_, _-_, _≤_}

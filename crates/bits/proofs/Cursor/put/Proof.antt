@@ -1,11 +1,11 @@
 -- `bits::Cursor::put` meets its contract. The invariant: the field's i highest bits are written.
-use Prim.Native.Nat.{_+_, _-_, _/_, _%_, _^_, _≤_}
+use Prim.Native.Nat.{_+_, _-_, _/_, _^_, _≤_}
 use mathlib.Core.Path.{_≡_, refl}
-use native.Mathlib.Nat.{add-zero, add-assoc, sub-self, div-one}
+use native.Mathlib.Nat.{add-zero, sub-self, div-one}
 use native.Mathlib.Omega.{arith}
-use Rattle.bits.specs.Bits.{digits, Wrote}
-use Rattle.bits.proofs.Digits.{digits-more}
-use Rattle.bits.proofs.Laws.{wrote-none, wrote-append}
+use Rattle.bits.specs.Bits.{digits}
+use Rattle.bits.specs.Fields.{Wrote}
+use Rattle.bits.proofs.Laws.{wrote-none, put-more}
 use Rattle.bits.proofs.Cursor.put.Statement.{statement}
 use Rattle.bits.proofs.Cursor.put.Tie as tie
 
@@ -51,12 +51,7 @@ loop-again c =
     let l = c .before .before .before .before .before in
     let a = l .before .before .args in
     let i = l .loop .i in
-    let e : a .width - 1 - i ≡ a .width - (i + 1) = omega arith in
-    let bit : Wrote (l .loop .buf) (c .before .before .set-bit .last .0) (a .self .at + i) (a .self .at + (i + 1)) (digits 1 (a .value / 2 ^ (a .width - (i + 1)) % 2)) =
-    rw (e, add-assoc) at (c .before .before .set-bit .ensures) in (
-      omega arith,
-      rw (digits-more (a .width) i 1 (a .value) (omega arith)) (wrote-append (l .loop .inv .1) bit),
-    )
+    (omega arith, put-more (a .self .at) i (a .width) (a .value) _ (omega arith) (l .loop .inv .1) (c .before .before .set-bit .ensures) (omega arith))
 
 add-t17 : tie.Need-add-t17 Inv-loop μ-loop
 add-t17 c = omega arith

@@ -1,11 +1,12 @@
 -- `bits::Cursor::take` meets its contract. The invariant: `value` is the number of the first i bits of the field.
-use Prim.Native.Nat.{_+_, _-_, _^_, _≤_, _<_}
-use mathlib.Core.Path.{_≡_, refl, sym}
+use Prim.Native.Nat.{_-_, _^_, _≤_, _<_}
+use mathlib.Core.Path.{_≡_, refl}
 use native.Mathlib.Nat.{lt-of-lt-of-le}
 use native.Mathlib.Omega.{arith}
 use lib.Pow.{pow-mono}
-use Rattle.bits.specs.Bits.{fieldAt, bitsAt, number}
-use Rattle.bits.proofs.Laws.{field-lt, field-more}
+use Rattle.bits.specs.Bits.{number}
+use Rattle.bits.specs.Fields.{fieldAt, bitsAt}
+use Rattle.bits.proofs.Laws.{field-lt, field-next, bit-lt}
 use Rattle.bits.proofs.Cursor.take.Statement.{statement}
 use Rattle.bits.proofs.Cursor.take.Tie as tie
 
@@ -37,8 +38,7 @@ bit-requires c κs = omega arith
 
 one : (c : tie.After-bit Inv-loop μ-loop) → c .bit .result < 2
 one c =
-    let start = c .before .before .before .before in
-    rw (c .bit .ensures) (field-lt (start .args .s .now) (start .args .self .at + c .before .before .loop .i) 1 (omega arith))
+    bit-lt (c .before .before .before .before .args .s .now) _ _ (c .bit .ensures) (omega arith)
 
 cast-value : tie.Need-cast-value Inv-loop μ-loop
 cast-value c = omega arith
@@ -56,7 +56,7 @@ loop-again : tie.Need-loop-again Inv-loop μ-loop
 loop-again c =
     let start = c .before .before .before .before in
     let l = c .before .before .loop in
-    (omega arith, rw (l .inv .1, c .bit .ensures) (sym (field-more (start .args .s .now) (start .args .self .at) (l .i) 1 (omega arith))))
+    (omega arith, field-next (start .args .s .now) (start .args .self .at) (l .i) _ _ _ (omega arith) (l .inv .1) (c .bit .ensures) (omega arith))
 
 add-t12 : tie.Need-add-t12 Inv-loop μ-loop
 add-t12 c = omega arith
@@ -65,7 +65,7 @@ returns : tie.Need-returns Inv-loop μ-loop
 returns c =
     let l = c .before .loop in
     let e : l .i ≡ c .before .before .before .args .width = omega arith in
-    (rw e at (l .inv .1), refl)
+    (rw e at (l .inv .1), omega arith)
 
 pub take-spec : {M : Type 1} → statement M
 take-spec =

@@ -1,8 +1,8 @@
--- `reply::check::ins_ok` meets its contract.
+-- `reply::judging::ins_ok` meets its contract.
 use Prim.Native.Nat.{ℕ, _-_, _≤_, _<_}
 use native.Mathlib.Omega.{arith}
 use Rattle.meaning.specs.Says.{aye, nay}
-use Rattle.reply.specs.inner.Sound.{InGood}
+use Rattle.reply.specs.inner.Checked.{InGood}
 use Rattle.reply.proofs.Lists.{up-to-suc}
 use Rattle.reply.proofs.Judge.{Met, met-none, met-more, in-good, in-low, in-met}
 use Rattle.reply.proofs.judging.ins_ok.Statement.{statement}

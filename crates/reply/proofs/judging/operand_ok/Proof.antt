@@ -1,4 +1,4 @@
--- `reply::check::operand_ok` meets its contract.
+-- `reply::judging::operand_ok` meets its contract.
 use native.Mathlib.Omega.{arith}
 use Rattle.meaning.specs.Says.{nay}
 use Rattle.meaning.proofs.Says.{says-iff}

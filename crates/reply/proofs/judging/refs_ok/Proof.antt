@@ -1,10 +1,10 @@
--- `reply::check::refs_ok` meets its contract.
+-- `reply::judging::refs_ok` meets its contract.
 use Prim.Native.Nat.{ℕ, _+_, _-_, _*_, _≤_, _<_}
 use mathlib.Core.Path.{_≡_, refl, _∙_}
 use native.Mathlib.Omega.{arith}
 use Rattle.meaning.specs.Says.{aye, nay}
 use Rattle.reply.specs.inner.Decode.{refWidth}
-use Rattle.reply.specs.inner.Sound.{RefGood}
+use Rattle.reply.specs.inner.Checked.{RefGood}
 use Rattle.reply.proofs.Lists.{up-to-suc}
 use Rattle.reply.proofs.Tests.{says-yes, says-no}
 use Rattle.reply.proofs.Judge.{ref-good, next-place, first-place, room-here}

@@ -1,27 +1,27 @@
--- `reply::check::reply_check` meets its contract.
+-- `reply::judging::reply_check` meets its contract.
 use Prim.Native.Nat.{ℕ}
 use mathlib.Core.Path.{_≡_}
 use native.Mathlib.Omega.{arith}
 use Rattle.reply.proofs.Tests.{says-yes, says-no}
-use Rattle.reply.proofs.Verdicts.{bad, good, few-vars, s-most, s-size, s-ins, s-steps, s-refs, s-filled, judged}
+use Rattle.reply.proofs.Verdicts.{bad, good, few-vars, s-most, s-size, s-ins, s-steps, s-refs, s-filled, all-checked}
 use borrow.Author.Needs.{needs}
 use Rattle.reply.proofs.judging.reply_check.Statement.{statement}
 use Rattle.reply.proofs.judging.reply_check.Tie as tie
 
 returns : tie.Need-returns
-returns c = bad (λ q. omega (arith, q .head, c .if1 .taken))
+returns c = bad _ (λ q. omega (arith, q .head, c .if1 .taken))
 
 returns-2 : tie.Need-returns-2
-returns-2 c = bad (λ q. omega (arith, s-most (c .before .before .before .args .bytes .now) q, c .if2 .taken))
+returns-2 c = bad _ (λ q. omega (arith, s-most (c .before .before .before .args .bytes .now) q, c .if2 .taken))
 
 header-requires : tie.Need-header-requires
 header-requires c κs = search needs
 
 returns-3 : tie.Need-returns-3
-returns-3 c = bad (λ q. omega (arith, q .asked, c .if3 .taken, c .before .before .header .ensures .number-is))
+returns-3 c = bad _ (λ q. omega (arith, q .asked, c .if3 .taken, c .before .before .header .ensures .number-is))
 
 returns-4 : tie.Need-returns-4
-returns-4 c = bad (λ q. omega (arith, q .few, c .if4 .taken, c .before .before .before .header .ensures .steps-is))
+returns-4 c = bad _ (λ q. omega (arith, q .few, c .if4 .taken, c .before .before .before .header .ensures .steps-is))
 
 mul-vars : tie.Need-mul-vars
 mul-vars c = search needs
@@ -54,19 +54,19 @@ add-if5 : tie.Need-add-if5
 add-if5 c = search needs
 
 returns-5 : tie.Need-returns-5
-returns-5 c = bad (λ q. c .if5 .taken (s-size (c .before .before .before .before .before .before .before .before .args .bytes .now) (c .before .before .before .before .header .result) (c .before .before .before .before .header .ensures) q))
+returns-5 c = bad _ (λ q. c .if5 .taken (s-size (c .before .before .before .before .before .before .before .before .args .bytes .now) (c .before .before .before .before .header .result) (c .before .before .before .before .header .ensures) q))
 
 ins-ok-requires : tie.Need-ins-ok-requires
 ins-ok-requires c κs = search needs
 
 returns-6 : tie.Need-returns-6
-returns-6 c = bad (λ q. says-no (c .before .ins-ok .ensures) (c .if6 .taken) (s-ins (c .before .before .before .before .before .before .before .before .before .before .args .bytes .now) (c .before .before .before .before .before .before .header .result) (c .before .before .before .before .before .before .header .ensures) q))
+returns-6 c = bad _ (λ q. says-no (c .before .ins-ok .ensures) (c .if6 .taken) (s-ins (c .before .before .before .before .before .before .before .before .before .before .args .bytes .now) (c .before .before .before .before .before .before .header .result) (c .before .before .before .before .before .before .header .ensures) q))
 
 steps-ok-requires : tie.Need-steps-ok-requires
 steps-ok-requires c κs = search needs
 
 returns-7 : tie.Need-returns-7
-returns-7 c = bad (λ q. says-no (c .before .steps-ok .ensures) (c .if7 .taken) (s-steps (c .before .before .before .before .before .before .before .before .before .before .before .before .args .bytes .now) (c .before .before .before .before .before .before .before .before .header .result) (c .before .before .before .before .before .before .before .before .header .ensures) q))
+returns-7 c = bad _ (λ q. says-no (c .before .steps-ok .ensures) (c .if7 .taken) (s-steps (c .before .before .before .before .before .before .before .before .before .before .before .before .args .bytes .now) (c .before .before .before .before .before .before .before .before .header .result) (c .before .before .before .before .before .before .before .before .header .ensures) q))
 
 mul-refs-ok : tie.Need-mul-refs-ok
 mul-refs-ok c = search needs
@@ -75,7 +75,7 @@ refs-ok-requires : tie.Need-refs-ok-requires
 refs-ok-requires c κs = search needs
 
 returns-8 : tie.Need-returns-8
-returns-8 c = bad (λ q. says-no (c .before .refs-ok .ensures) (c .if8 .taken) (s-refs (c .before .before .before .before .before .before .before .before .before .before .before .before .before .before .args .bytes .now) (c .before .before .before .before .before .before .before .before .before .before .header .result) (c .before .before .before .before .before .before .before .before .before .before .header .ensures) q))
+returns-8 c = bad _ (λ q. says-no (c .before .refs-ok .ensures) (c .if8 .taken) (s-refs (c .before .before .before .before .before .before .before .before .before .before .before .before .before .before .args .bytes .now) (c .before .before .before .before .before .before .before .before .before .before .header .result) (c .before .before .before .before .before .before .before .before .before .before .header .ensures) q))
 
 mul-blank : tie.Need-mul-blank
 mul-blank c = search needs
@@ -86,11 +86,11 @@ blank-requires c κs = search needs
 returns-9 : tie.Need-returns-9
 returns-9 c =
     let s = c .before .before .before .before .before .before .before .before .before .before .before .before .before .before .before .before .args .bytes .now in
-    good (λ i. c .before .before .before .before .before .before .before .before .before .before .before .before .before .before .before .shared-slice-known .given i .fits)
-    (judged s (c .before .before .before .before .before .before .before .before .before .before .before .before .header .result) (c .before .before .before .before .before .before .before .before .before .before .before .before .header .ensures) (c .before .before .before .before .before .before .before .before .before .before .before .before .before .before .if1 .left) (c .before .before .before .before .before .before .before .before .before .before .if3 .left) (c .before .before .before .before .before .before .before .before .before .if4 .left) (c .before .before .before .before .before .before .before .before .if5 .left) (says-yes (c .before .before .before .before .before .before .before .ins-ok .ensures) (c .before .before .before .before .before .before .if6 .left)) (says-yes (c .before .before .before .before .before .steps-ok .ensures) (c .before .before .before .before .if7 .left)) (says-yes (c .before .before .before .refs-ok .ensures) (c .before .before .if8 .left)) (c .before .blank .ensures .0 (c .if9 .taken)))
+    good _ (λ i. c .before .before .before .before .before .before .before .before .before .before .before .before .before .before .before .shared-slice-known .given i .fits)
+    (all-checked s (c .before .before .before .before .before .before .before .before .before .before .before .before .header .result) (c .before .before .before .before .before .before .before .before .before .before .before .before .header .ensures) _ (c .before .before .before .before .before .before .before .before .before .before .before .before .before .before .if1 .left) (c .before .before .before .before .before .before .before .before .before .before .if3 .left) (c .before .before .before .before .before .before .before .before .before .if4 .left) (c .before .before .before .before .before .before .before .before .if5 .left) (says-yes (c .before .before .before .before .before .before .before .ins-ok .ensures) (c .before .before .before .before .before .before .if6 .left)) (says-yes (c .before .before .before .before .before .steps-ok .ensures) (c .before .before .before .before .if7 .left)) (says-yes (c .before .before .before .refs-ok .ensures) (c .before .before .if8 .left)) (c .before .blank .ensures .0 (c .if9 .taken)) (omega arith))
 
 returns-10 : tie.Need-returns-10
-returns-10 c = bad (λ q. let z = c .before .blank .ensures .1 (s-filled (c .before .before .before .before .before .before .before .before .before .before .before .before .before .before .before .before .args .bytes .now) (c .before .before .before .before .before .before .before .before .before .before .before .before .header .result) (c .before .before .before .before .before .before .before .before .before .before .before .before .header .ensures) q) in let y : _≡_ {A = ℕ} 0 1 = cc (z, c .if9 .left) in omega arith)
+returns-10 c = bad _ (λ q. let z = c .before .blank .ensures .1 (s-filled (c .before .before .before .before .before .before .before .before .before .before .before .before .before .before .before .before .args .bytes .now) (c .before .before .before .before .before .before .before .before .before .before .before .before .header .result) (c .before .before .before .before .before .before .before .before .before .before .before .before .header .ensures) _ (omega arith) q) in let y : _≡_ {A = ℕ} 0 1 = cc (z, c .if9 .left) in omega arith)
 
 pub reply-check-spec : {M : Type 1} → statement M
 reply-check-spec =

@@ -1,4 +1,4 @@
--- `reply::check::step_ok` meets its contract.
+-- `reply::judging::step_ok` meets its contract.
 use native.Mathlib.Omega.{arith}
 use Rattle.meaning.specs.Says.{nay}
 use Rattle.reply.proofs.Tests.{says-eq, says-yes, says-no}

@@ -1,10 +1,10 @@
--- `reply::check::steps_ok` meets its contract.
+-- `reply::judging::steps_ok` meets its contract.
 use Prim.Native.Nat.{ℕ, _+_, _-_, _*_, _≤_, _<_}
 use mathlib.Core.Path.{_≡_}
 use native.Mathlib.Omega.{arith}
 use Rattle.meaning.specs.Says.{aye, nay}
 use Rattle.reply.specs.inner.Decode.{stepWidth}
-use Rattle.reply.specs.inner.Sound.{StepGood}
+use Rattle.reply.specs.inner.Checked.{StepGood}
 use Rattle.reply.proofs.Lists.{up-to-suc}
 use Rattle.reply.proofs.Tests.{says-yes, says-no}
 use Rattle.reply.proofs.Judge.{step-good, next-place, first-place, room-here}

@@ -8,7 +8,7 @@ use Rattle.meaning.specs.Reply.{Reply}
 use Rattle.meaning.proofs.Says.{says-iff, says-and}
 use Rattle.reply.specs.WellFormed.{vars, Result, Operand, Operands, WellFormed, Fits}
 use Rattle.reply.specs.inner.Decode.{isResult, isOperand, areOperands, wellFormed, fits}
-use Rattle.reply.specs.inner.Promise.{Judged}
+use Rattle.reply.specs.inner.Promise.{ReadTests}
 use Rattle.reply.proofs.Tests.{says-lt, says-le, says-eq, says-ne, says-every}
 
 module _ (n m : ℕ) where
@@ -100,5 +100,5 @@ module _ (r : Reply) where
       says-iff (λ (h : (vars (r .entries) (length (r .ins)) ≤ 2 ^ w) × (length (r .steps) ≤ 2 ^ w)). record { vars-fit = h .0; steps-fit = h .1 }) (λ g. (g .vars-fit, g .steps-fit))
       (says-and (says-le (vars (r .entries) (length (r .ins))) (2 ^ w)) (says-le (length (r .steps)) (2 ^ w)))
 
-pub judged : Judged
-judged w r = (says-formed r, says-fits r w)
+pub read-tests : ReadTests
+read-tests w r = (says-formed r, says-fits r w)

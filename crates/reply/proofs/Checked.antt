@@ -5,14 +5,16 @@ use mathlib.Core.Path.{_≡_, refl}
 use mathlib.Core.Bool.{false}
 use mathlib.Core.List.{List, _++_}
 use lib.ListN.{length, replicate}
-use Rattle.bits.specs.Bits.{digits, bitsOf, fieldAt, Holds}
-use Rattle.bits.proofs.Laws.{field-holds, field-lt, holds-append, holds-whole, one-more}
+use Rattle.bits.specs.Bits.{digits}
+use Rattle.bits.specs.Fields.{bitsOf, fieldAt}
+use Rattle.bits.specs.inner.Stand.{BitsStand}
+use Rattle.bits.proofs.Laws.{field-stand, field-lt, stand-append, stand-whole, one-more}
 use Rattle.meaning.specs.Formula.{Ref, Step}
 use Rattle.meaning.specs.Reply.{Reply, tabulated}
 use Rattle.reply.specs.Write.{refBits, stepBits, headBits, replyBits}
 use Rattle.reply.specs.WellFormed.{Result, Operands, WellFormed}
 use Rattle.reply.specs.inner.Decode.{refWidth, stepWidth, refAt, stepAt, insTo, stepsTo, vTo, endOf, inAt, insOf, stepsOf, entriesOf, decoded}
-use Rattle.reply.specs.inner.Sound.{RefGood, varsOf, Sound}
+use Rattle.reply.specs.inner.Checked.{RefGood, varsOf, Checked}
 use Rattle.reply.proofs.Lists.{tab-length, tab-at, at-each}
 use Rattle.reply.proofs.Fields.{ref-in, step-in}
 
@@ -44,22 +46,22 @@ module _ (w : ℕ) (s : List ℕ) where
   abbrev pub dG : ℕ → Ref
   dG e = refAt w s (vTo w (insOf s) (stepsOf s) (entriesOf s) + refWidth w * e)
 
-module _ (w : ℕ) (s : List ℕ) (h : Sound w s) where
+module _ (w : ℕ) (s : List ℕ) (h : Checked w s) where
   room : (insTo (insOf s) ≤ 8 * length s) × (stepsTo w (insOf s) (stepsOf s) ≤ 8 * length s) × (vTo w (insOf s) (stepsOf s) (entriesOf s) ≤ 8 * length s)
   room = ends w (insOf s) (stepsOf s) (entriesOf s) (8 * length s) (h .room)
 
   step-here : (i : ℕ) → i < stepsOf s
-      → Holds s (insTo (insOf s) + stepWidth w * i) (insTo (insOf s) + stepWidth w * i + stepWidth w) (stepBits w (stepG w s i)) × Operands (varsOf s) i (stepG w s i)
+      → BitsStand s (insTo (insOf s) + stepWidth w * i) (insTo (insOf s) + stepWidth w * i + stepWidth w) (stepBits w (stepG w s i)) × Operands (varsOf s) i (stepG w s i)
   step-here i l = step-in w (varsOf s) i s (insTo (insOf s) + stepWidth w * i) (inside (stepWidth w) (insTo (insOf s)) i (stepsOf s) (8 * length s) l (room .1)) (h .steps-good i l)
 
   ref-here : (a e : ℕ) → e < entriesOf s → a + refWidth w * entriesOf s ≤ 8 * length s → RefGood w s (varsOf s) (stepsOf s) (a + refWidth w * e)
-      → Holds s (a + refWidth w * e) (a + refWidth w * e + refWidth w) (refBits w (refAt w s (a + refWidth w * e)))
+      → BitsStand s (a + refWidth w * e) (a + refWidth w * e + refWidth w) (refBits w (refAt w s (a + refWidth w * e)))
       × Result (varsOf s) (stepsOf s) (refAt w s (a + refWidth w * e))
   ref-here a e l r g = ref-in w (varsOf s) (stepsOf s) s (a + refWidth w * e) (inside (refWidth w) a e (entriesOf s) (8 * length s) l r) g
 
-  pub sound-formed : WellFormed (decoded w s)
+  pub checked-formed : WellFormed (decoded w s)
   unfolding decoded
-  sound-formed =
+  checked-formed =
       let li : length (tabulated (insOf s) 0 (inAt s)) ≡ insOf s = tab-length (insOf s) 0 (inAt s) in
       let ls : length (tabulated (stepsOf s) 0 (stepG w s)) ≡ stepsOf s = tab-length (stepsOf s) 0 (stepG w s) in
       record {
@@ -85,27 +87,27 @@ module _ (w : ℕ) (s : List ℕ) (h : Sound w s) where
         d-good = λ e l. rw (li, ls, tab-at (entriesOf s) e (dG w s) Ref.low l) (ref-here (vTo w (insOf s) (stepsOf s) (entriesOf s)) e l (h .room) (h .d-good e l) .1);
       }
 
-  head-here : Holds s 0 60 (headBits (fieldAt s 0 32) (fieldAt s 32 5) (entriesOf s) (insOf s) (stepsOf s))
+  head-here : BitsStand s 0 60 (headBits (fieldAt s 0 32) (fieldAt s 32 5) (entriesOf s) (insOf s) (stepsOf s))
   unfolding headBits
   head-here =
       let e1 : entriesOf s - 1 ≡ fieldAt s 37 5 = omega arith in
-      let f1 : Holds s 0 32 (digits 32 (fieldAt s 0 32)) = field-holds s 0 32 (omega (arith, h .head)) in
-      let f2 : Holds s 32 37 (digits 5 (fieldAt s 32 5)) = field-holds s 32 5 (omega (arith, h .head)) in
-      let f3 : Holds s 37 42 (digits 5 (fieldAt s 37 5)) = field-holds s 37 5 (omega (arith, h .head)) in
-      let f4 : Holds s 42 47 (digits 5 (fieldAt s 42 5)) = field-holds s 42 5 (omega (arith, h .head)) in
-      let f5 : Holds s 47 60 (digits 13 (fieldAt s 47 13)) = field-holds s 47 13 (h .head) in
-      rw e1 (holds-append f1 (holds-append f2 (holds-append f3 (holds-append f4 f5))))
+      let f1 : BitsStand s 0 32 (digits 32 (fieldAt s 0 32)) = field-stand s 0 32 (omega (arith, h .head)) in
+      let f2 : BitsStand s 32 37 (digits 5 (fieldAt s 32 5)) = field-stand s 32 5 (omega (arith, h .head)) in
+      let f3 : BitsStand s 37 42 (digits 5 (fieldAt s 37 5)) = field-stand s 37 5 (omega (arith, h .head)) in
+      let f4 : BitsStand s 42 47 (digits 5 (fieldAt s 42 5)) = field-stand s 42 5 (omega (arith, h .head)) in
+      let f5 : BitsStand s 47 60 (digits 13 (fieldAt s 47 13)) = field-stand s 47 13 (h .head) in
+      rw e1 (stand-append f1 (stand-append f2 (stand-append f3 (stand-append f4 f5))))
 
-  pub sound-writes : Writes w (decoded w s) s
+  pub checked-writes : Writes w (decoded w s) s
   unfolding decoded replyBits
-  sound-writes = record {
+  checked-writes = record {
     filling = 8 * length s - endOf w (insOf s) (stepsOf s) (entriesOf s);
     less = omega (arith, h .room, h .close);
     bits =
-        let p1 = at-each 5 (digits 5) s (inAt s) (insOf s) 60 (room .0) (λ i l. field-holds s (60 + 5 * i) 5 (omega (arith, room .0))) in
+        let p1 = at-each 5 (digits 5) s (inAt s) (insOf s) 60 (room .0) (λ i l. field-stand s (60 + 5 * i) 5 (omega (arith, room .0))) in
         let p2 = at-each (stepWidth w) (stepBits w) s (stepG w s) (stepsOf s) (insTo (insOf s)) (room .1) (λ i l. step-here i l .0) in
         let p3 = at-each (refWidth w) (refBits w) s (vG w s) (entriesOf s) (stepsTo w (insOf s) (stepsOf s)) (room .2) (λ e l. ref-here (stepsTo w (insOf s) (stepsOf s)) e l (room .2) (h .v-good e l) .0) in
         let p4 = at-each (refWidth w) (refBits w) s (dG w s) (entriesOf s) (vTo w (insOf s) (stepsOf s) (entriesOf s)) (h .room) (λ e l. ref-here (vTo w (insOf s) (stepsOf s) (entriesOf s)) e l (h .room) (h .d-good e l) .0) in
         rw (tab-length (insOf s) 0 (inAt s), tab-length (stepsOf s) 0 (stepG w s))
-        (holds-whole (holds-append (holds-append head-here (holds-append p1 (holds-append p2 (holds-append p3 p4)))) (h .filled)) refl);
+        (stand-whole (stand-append (stand-append head-here (stand-append p1 (stand-append p2 (stand-append p3 p4)))) (h .filled)) refl);
   }

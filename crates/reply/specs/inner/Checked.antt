@@ -1,12 +1,14 @@
--- What the check tests, on the numbers read at a place; and `Sound`, all of it together. Inner functions' contracts cite these.
+-- What the check tests, on the numbers read at a place; and `Checked`, all of it together. Inner functions' contracts cite these.
 use Prim.Native.Nat.{ℕ, zero, suc, _+_, _-_, _*_, _≤_, _<_}
 use mathlib.Core.Path.{_≡_}
 use mathlib.Core.Bool.{false}
 use lib.ListN.{length, replicate}
-use Rattle.bits.specs.Bits.{fieldAt, Holds}
+use Rattle.bits.specs.Fields.{fieldAt}
+use Rattle.bits.specs.inner.Stand.{BitsStand}
 use Rattle.meaning.specs.Bytes.{Bytes}
 use Rattle.reply.specs.WellFormed.{vars}
-use Rattle.reply.specs.inner.Decode.{refWidth, stepWidth, insTo, stepsTo, vTo, endOf, numberOf, fragmentOf, entriesOf, insOf, stepsOf, inAt}
+use Rattle.reply.specs.inner.Decode.{refWidth, stepWidth, insTo, stepsTo, vTo, endOf}
+use Rattle.reply.specs.inner.Decode.{numberOf, fragmentOf, entriesOf, insOf, stepsOf, inAt}
 
 -- a result's kind and number, of n variables and m steps
 unfoldable pub RefOk : ℕ → ℕ → ℕ → ℕ → Type 0
@@ -32,7 +34,8 @@ RefGood w s n m p = RefOk n m (fieldAt s p 2) (fieldAt s (p + 2) w)
 
 abbrev pub StepGood : ℕ → Bytes → ℕ → ℕ → ℕ → Type 0
 StepGood w s n m p =
-    StepOk n m (fieldAt s p 2) (fieldAt s (p + 2) 2) (fieldAt s (p + 2 + 2) w) (fieldAt s (p + 2 + refWidth w) 2) (fieldAt s (p + 2 + refWidth w + 2) w)
+    StepOk n m (fieldAt s p 2) (fieldAt s (p + 2) 2) (fieldAt s (p + 2 + 2) w)
+    (fieldAt s (p + 2 + refWidth w) 2) (fieldAt s (p + 2 + refWidth w + 2) w)
 
 -- the i-th stand-in exceeds the fragment and differs from those before it
 pub record InGood (s : Bytes) (f i : ℕ) : Type 0 where
@@ -42,7 +45,7 @@ pub record InGood (s : Bytes) (f i : ℕ) : Type 0 where
 abbrev pub varsOf : Bytes → ℕ
 varsOf s = vars (entriesOf s) (insOf s)
 
-pub record Sound (w : ℕ) (s : Bytes) : Type 0 where
+pub record Checked (w : ℕ) (s : Bytes) : Type 0 where
   pub head : 60 ≤ 8 * length s
   pub asked : 0 < numberOf s
   pub few : stepsOf s ≤ 4096
@@ -52,4 +55,5 @@ pub record Sound (w : ℕ) (s : Bytes) : Type 0 where
   pub steps-good : (i : ℕ) → i < stepsOf s → StepGood w s (varsOf s) i (insTo (insOf s) + stepWidth w * i)
   pub v-good : (e : ℕ) → e < entriesOf s → RefGood w s (varsOf s) (stepsOf s) (stepsTo w (insOf s) (stepsOf s) + refWidth w * e)
   pub d-good : (e : ℕ) → e < entriesOf s → RefGood w s (varsOf s) (stepsOf s) (vTo w (insOf s) (stepsOf s) (entriesOf s) + refWidth w * e)
-  pub filled : Holds s (endOf w (insOf s) (stepsOf s) (entriesOf s)) (8 * length s) (replicate (8 * length s - endOf w (insOf s) (stepsOf s) (entriesOf s)) false)
+  pub filled : BitsStand s (endOf w (insOf s) (stepsOf s) (entriesOf s)) (8 * length s)
+      (replicate (8 * length s - endOf w (insOf s) (stepsOf s) (entriesOf s)) false)
