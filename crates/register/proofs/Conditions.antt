@@ -25,7 +25,7 @@ use Rattle.reader.proofs.Outcome.{read-listed}
 use Rattle.reply.specs.Read.{Is}
 use Rattle.reply.specs.inner.Decode.{read}
 use Rattle.reply.specs.WellFormed.{WellFormed}
-use Rattle.reply.proofs.Round.{fits-12, write-read, read-write}
+use Rattle.reply.proofs.Round.{fits-12, round-trip}
 use Rattle.depot.specs.Answer.{laid}
 use Rattle.depot.proofs.Promised.{laid-well-formed}
 use Rattle.question.proofs.Listed.{listed-length}
@@ -38,7 +38,7 @@ use Rattle.meaning.proofs.Refused.{through}
 use Rattle.desk.proofs.Keeping.{opening-whole}
 use Rattle.whole.specs.declared.Record.{Record}
 use Rattle.register.specs.Round.{Round}
-use Rattle.register.specs.Promise.{DepotBytes, RoundTrip, NothingCarriesOver}
+use Rattle.register.specs.Promise.{DepotBytes, ReadBack, NothingCarriesOver}
 use Rattle.register.proofs.Laid.{Granting, granting, sent-bytes}
 
 pub depot-bytes : DepotBytes
@@ -50,13 +50,8 @@ depot-bytes c fits work out size work′ out′ a = rw (sent-bytes c work out si
     formed : WellFormed (laid c)
     formed = laid-well-formed c (record { keeps = g .keeps; asked = g .asked; sound = g .sound }) fits (g .few)
 
-pub round-trip : RoundTrip
-round-trip = record {
-  read = read 12;
-  back = λ r w. write-read 12 r w (fits-12 r w);
-  forth = λ s r e. (read-write 12 s r e .formed, read-write 12 s r e .writes);
-  reads = λ s r i. subst (λ b. read 12 b ≡ some r) (i .writes) (write-read 12 r (i .formed) (i .fits));
-}
+pub read-back : ReadBack
+read-back = round-trip 12
 
 answer-is : {n : ℕ} {l : L.List} (a : Answer) → a .refusal ≡ n → a .list ≡ l → a ≡ record { refusal = n; list = l }
 answer-is a e f = λ i. record { refusal = e i; list = f i }

@@ -7,7 +7,6 @@ use Prim.Native.Nat.{ℕ, _+_, _*_, _/_, _^_, _≤_, _<_}
 use mathlib.Core.Path.{_≡_}
 use mathlib.Core.Bool.{Bool}
 use mathlib.Core.Logic.{_⊎_, _≢_}
-use mathlib.Core.Option.{Option, some}
 use mathlib.Core.List.{List, [], _∷_}
 use lib.ListN.{length, take}
 use Rattle.meaning.specs.Says.{Says}
@@ -22,9 +21,7 @@ use Rattle.reader.specs.Nesting.{nesting}
 use Rattle.reader.specs.Packed.{placedEntries}
 use Rattle.reader.specs.Read.{Written, Read}
 use Rattle.reader.specs.declared.Answer.{Answer}
-use Rattle.reply.specs.Write.{write}
-use Rattle.reply.specs.WellFormed.{WellFormed}
-use Rattle.reply.specs.Read.{Is}
+use Rattle.reply.specs.Read.{Is, Reading}
 use Rattle.depot.specs.Answer.{Call, call, laid, Answered}
 use Rattle.desk.specs.Calls.{Opens, Accepts, Asks}
 use Rattle.whole.specs.declared.Record.{Record}
@@ -91,13 +88,9 @@ abbrev pub DepotBytes : Type 0
 DepotBytes = (c : Call) → c .number < 2 ^ 32 → (work out : List ℕ) (size : ℕ) (work′ out′ : List ℕ) → Answered c work out 0 size work′ out′
     → Is 12 (take size out′) (laid c)
 
--- reading is a function: a reply turned to bytes reads back as the same reply, and bytes that are read write back as the same bytes;
--- what is a reply is read
-pub record RoundTrip : Type 0 where
-  pub read : Bytes → Option Reply
-  pub back : (r : Reply) → WellFormed r → read (write 12 r) ≡ some r
-  pub forth : (s : Bytes) (r : Reply) → read s ≡ some r → WellFormed r × (write 12 r ≡ s)
-  pub reads : (s : Bytes) (r : Reply) → Is 12 s r → read s ≡ some r
+-- a reply turned to bytes reads back as the same reply, and bytes that are read write back as the same bytes
+abbrev pub ReadBack : Type 0
+ReadBack = Reading 12
 
 -- ---- CONDITION 3
 -- what the desk says and takes after the calls l, where the question means A

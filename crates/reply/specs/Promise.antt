@@ -1,21 +1,14 @@
 -- WHAT IS PROVED OF THESE DEFINITIONS: each promise is a type, and proofs/ has its element under its name (`round-trip` of `RoundTrip`).
 use Prim.Native.Nat.{ℕ, _≤_}
 use mathlib.Core.Path.{_≡_}
-use mathlib.Core.Option.{Option, some}
 use lib.ListN.{length}
 use Rattle.meaning.specs.Bytes.{Bytes}
 use Rattle.meaning.specs.Reply.{Reply}
 use Rattle.reply.specs.Write.{write}
 use Rattle.reply.specs.WellFormed.{WellFormed, Fits}
-use Rattle.reply.specs.Read.{Is, Checks}
+use Rattle.reply.specs.Read.{Checks, Reading}
 
--- there is a function that reads: a reply turned to bytes reads back as the same reply,
--- and bytes that are read write back as the same bytes
-pub record Reading (w : ℕ) : Type 0 where
-  pub read : Bytes → Option Reply
-  pub back : (r : Reply) → WellFormed r → Fits w r → read (write w r) ≡ some r
-  pub forth : (s : Bytes) (r : Reply) → read s ≡ some r → Is w s r
-
+-- a reply of any width is read back
 abbrev pub RoundTrip : Type 0
 RoundTrip = (w : ℕ) → Reading w
 
