@@ -1,4 +1,5 @@
 // A depot's limits on lists, work memory, steps and the reply's buffer: 5, 7, 8, 9.
+use crate::byte;
 use crate::line;
 use crate::rows::chain;
 use crate::rows::stand_in;
@@ -35,7 +36,7 @@ fn numbered(list: List, number: u32) -> u8 {
     let mut work = [0u16; 12416];
     let mut out = [0u8; 200];
     let a = depot_reply(&text, list, &rows, b"firm", 0, number, &mut work, &mut out);
-    a.refusal
+    byte(a.refusal)
 }
 
 fn listed(list: List) -> u8 {
@@ -146,7 +147,7 @@ fn given(work: &mut [u16]) -> u8 {
         work,
         &mut out,
     );
-    a.refusal
+    byte(a.refusal)
 }
 
 fn into(out: &mut [u8]) -> u8 {
@@ -163,7 +164,7 @@ fn into(out: &mut [u8]) -> u8 {
         &mut work,
         out,
     );
-    a.refusal
+    byte(a.refusal)
 }
 
 // Lists found by trying, worked by tools/worked-replies: over 128 real rows in a chain and a stand-in below them the first makes 4,096
@@ -390,5 +391,5 @@ fn steps(list: List, rows: &[u32]) -> u8 {
     let mut work = [0u16; 30000];
     let mut out = [0u8; 15499];
     let a = depot_reply(b"", list, rows, b"firm", 0, 1, &mut work, &mut out);
-    a.refusal
+    byte(a.refusal)
 }

@@ -1,4 +1,5 @@
 // The limits on a fragment: 6.
+use crate::byte;
 use crate::line;
 use crate::rows::chain;
 use depot::depot_reply;
@@ -26,7 +27,7 @@ fn said(rows: &[u32], fragment: u32) -> u8 {
     let mut work = [0u16; 14340];
     let mut out = [0u8; 200];
     let a = depot_reply(b"", list, rows, &pool, fragment, 1, &mut work, &mut out);
-    a.refusal
+    byte(a.refusal)
 }
 
 fn sizes() {

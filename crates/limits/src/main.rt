@@ -54,3 +54,11 @@ fn said(refusal: u8) {
     io::write_all(1, b"refused ");
     io::print_decimal(1, refusal as u64);
 }
+
+// A number of refusal as a byte; none is over 20.
+pub fn byte(refusal: usize) -> u8 {
+    if refusal < 256 {
+        return refusal as u8;
+    }
+    255
+}

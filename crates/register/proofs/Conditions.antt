@@ -14,7 +14,7 @@ use Rattle.meaning.specs.Tree.{Tree}
 use Rattle.meaning.specs.Entry.{Entry, entries, top, EntryHolds}
 use Rattle.meaning.specs.Holds.{Holds}
 use Rattle.meaning.specs.Reply.{Reply}
-use Rattle.meaning.specs.Register.{joined}
+use Rattle.meaning.specs.Register.{rowsIn, joined}
 use Rattle.meaning.proofs.Entry.{readers-list, last-entry}
 use Rattle.meaning.proofs.Solve.{waits}
 use Rattle.question.specs.Listed.{listed}
@@ -23,8 +23,9 @@ use Rattle.reader.proofs.Outcome.{read-listed}
 use Rattle.reply.specs.Read.{Is}
 use Rattle.reply.specs.inner.Decode.{read}
 use Rattle.reply.proofs.Round.{fits-12, write-read}
-use Rattle.question.proofs.Listed.{listed-length}
-use Rattle.depot.proofs.Promised.{laid-bound}
+use Rattle.question.proofs.Listed.{listed-length, keeps-earlier}
+use Rattle.meaning.specs.Bound.{stepBound}
+use Rattle.meaning.proofs.Bound.{bounded}
 use Rattle.meaning.specs.Refused.{Unless, Granted}
 use Rattle.whole.specs.Whole.{Whole, partOf}
 use Rattle.desk.specs.Changed.{openedAs}
@@ -41,7 +42,9 @@ pub round-trip : RoundTrip
 round-trip R a f h = write-read 12 (replyOf R f) (formed R a f h) (fits-12 (replyOf R f) (formed R a f h))
 
 pub steps-bounded : StepsBounded
-steps-bounded R a f h isOpen tells = laid-bound (callOf R f) (record { keeps = a .keeps; asked = a .some-number; sound = a .cut .sound f h }) isOpen tells
+steps-bounded R a f h isOpen tells =
+    subst (λ n. length (replyOf R f .steps) ≤ stepBound n (rowsIn (R .register) f) isOpen) (listed-length (R .list) (R .text))
+    (bounded (R .number) f (R .register .fragment f) (a .cut .sound f h) (listed (R .list) (R .text)) (keeps-earlier (R .list) (R .text) (a .keeps)) isOpen tells)
 
 -- the last entry of the reader's list, in any tree
 pub readers-last : (R : Round) → Read (R .text) (record { refusal = 0; list = R .list }) → (w : Written (R .text)) → (t : Tree) (u : t .N)
