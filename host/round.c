@@ -62,7 +62,7 @@ static unsigned reply_of(struct reply *reply, int box, uint32_t fragment, uint32
         depot_reply((const uint8_t *)text, strlen(text), list, boxes[box].rows, boxes[box].length, (const uint8_t *)pool, sizeof pool - 1,
                     fragment, number, work, sizeof work / sizeof *work, reply->bytes, sizeof reply->bytes);
     reply->size = answer.size;
-    return answer.refusal;
+    return (unsigned)answer.refusal;
 }
 
 static struct desk_record desk;

@@ -118,8 +118,8 @@ struct question_shown question_listing(struct question_list list, const uint8_t 
 /* ---- Depots ---- */
 
 struct depot_answer {
-    uint8_t refusal; /* 0 or a number of refusal */
-    size_t size;     /* the reply's bytes; 0 where refused */
+    size_t refusal; /* 0 or a number of refusal */
+    size_t size;    /* the reply's bytes; 0 where refused */
 };
 
 /* A depot's reply to a question about its fragment.

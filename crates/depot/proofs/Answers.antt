@@ -1,7 +1,7 @@
 -- THE ANSWER, by the way that the code took.
-use Prim.Native.Nat.{ℕ, zero, _+_, _*_, _<_, _≤_}
+use Prim.Native.Nat.{ℕ, _+_, _*_, _<_, _≤_}
 use native.Mathlib.Omega.{arith}
-use native.Mathlib.Nat.{mul-le-mul-right}
+use native.Mathlib.Nat.{zero-add, mul-le-mul-right}
 use mathlib.Core.Path.{_≡_, refl, sym, ap, _∙_, subst}
 use mathlib.Core.Bool.{Bool, true, false, true≢false, false≢true}
 use mathlib.Core.List.{List}
@@ -13,8 +13,7 @@ use Rattle.meaning.specs.Reply.{laidRun, laidDown}
 use Rattle.meaning.specs.Run.{Vectors}
 use Rattle.question.specs.declared.List as L
 use Rattle.question.specs.Listed.{Keeps, listed}
-use Rattle.writing.specs.inner.Codes.{FormulaIn, FrontIn, rowIns, replyIn}
-use Rattle.writing.specs.inner.Codes.{Written}
+use Rattle.writing.specs.inner.Codes.{FormulaIn, FrontIn, rowIns, replyIn, Written}
 use Rattle.reply.specs.inner.Decode as Read
 use Rattle.reply.proofs.Lists.{tab-length}
 use Rattle.reply.proofs.Round.{size-is}
@@ -23,7 +22,9 @@ use Rattle.depot.specs.inner.Worked.{Worked}
 use Rattle.depot.specs.Answer.{Call, call, laid, bytes, memoryAfter, Answered}
 use Rattle.formula.specs.inner.Made as Made
 use Rattle.formula.specs.inner.Made.{Laid, Made}
-use Rattle.depot.proofs.Kept.{rows-ins, ins-few, front-in, formula-in, reply-in}
+use Rattle.writing.specs.inner.Promise.{LaidReply}
+use Rattle.writing.proofs.Rows.{row-ins, front-in}
+use Rattle.writing.proofs.LaidIn.{laid-in}
 use Rattle.question.proofs.Listed.{listed-length}
 
 -- a memory of zeros, of whatever length
@@ -60,12 +61,36 @@ module _ (l : L.List) (t : Bytes) (F : Fragment) (part number : ℕ) (keeps : Ke
   abbrev size : ℕ
   size = rowCount F * l .count
 
+  few-ins : length (rowIns (F .rows)) < 32
+  few-ins = front-in part F sound (l .count) 0 (omega (arith, keeps .some-entry)) (keeps .most) (omega arith) .few-ins
+
+  -- the memory that the formula leaves is what writing asks for, and holds the reply laid down
+  kept : {m : List ℕ} → 4 * size + 12288 ≤ length m → length (o .st) ≤ 4096 → Laid size (l .count) o m
+      → FormulaIn 12 m (4 * size) (length (o .st)) 0 (2 * size) (l .count) × (replyIn number part (l .count) (F .rows) m (4 * size) (length (o .st)) 0 (2 * size) ≡ laid c)
+  kept {m} room few h = subst (λ n. FormulaIn 12 m (4 * size) (length (o .st)) 0 (2 * size) n × (replyIn number part n (F .rows) m (4 * size) (length (o .st)) 0 (2 * size) ≡ laid c)) count (r .asked, r .reply)
+    where
+      count : length (listed l t) ≡ l .count
+      count = listed-length l t
+
+      cells : 1 * l .count ≤ size
+      cells = mul-le-mul-right (l .count) (sound .some-row)
+
+      r : LaidReply number part F (listed l t) m (4 * size) (length (o .st)) 0 (2 * size)
+      r = laid-in number part F sound (listed l t) (omega (arith, count, keeps .some-entry)) (omega (arith, count, keeps .most)) few m (4 * size) 0 (2 * size) (record {
+        steps = h .steps;
+        v-is = λ e a. rw zero-add (h .v e (omega (arith, count)));
+        d-is = λ e a. h .d e (omega (arith, count));
+        steps-inside = omega arith;
+        v-inside = omega (arith, count, cells);
+        d-inside = omega (arith, count, cells);
+      })
+
   bytes-length : length (bytes c) ≡ Read.size 12 (length (rowIns (F .rows))) (length (o .st)) (l .count)
   unfolding laidDown
   bytes-length = size-is 12 (laid c) (tab-length _ _ _) (tab-length _ _ _) ∙ (λ i. Read.size 12 (length (ins i)) (length (o .st)) (listed-length l t i))
     where
       ins : laid c .ins ≡ rowIns (F .rows)
-      ins = sym (rows-ins part F sound l t keeps)
+      ins = sym (row-ins F (sound .some-row))
 
   -- the size that is asked for is the reply's
   pub need-is : {m : List ℕ} {k ins need : ℕ} → Within size (l .count) o m k → ins ≡ length (rowIns (F .rows)) → need ≡ Read.size 12 ins k (l .count) → need ≡ length (bytes c)
@@ -86,18 +111,18 @@ module _ (l : L.List) (t : Bytes) (F : Fragment) (part number : ℕ) (keeps : Ke
     late-done {n} {k} {need} {m} {work′} {out′} room w p q x z = record { late = passed (w .few) (passed (omega (arith, p, q)) granted); size-is = y .size-is; zeros = z; buffer = y .bytes }
       where
         y : Written 12 (laid c) out out′ n
-        y = subst (λ r. Written 12 r out out′ n) (ap (λ k. replyIn number part (l .count) (F .rows) m (4 * size) k 0 (2 * size)) (w .count) ∙ reply-in part F sound l t keeps m room (w .few) (w .held) number) x
+        y = subst (λ r. Written 12 r out out′ n) (ap (λ k. replyIn number part (l .count) (F .rows) m (4 * size) k 0 (2 * size)) (w .count) ∙ kept room (w .few) (w .held) .1) x
 
   pub need-fits : (k : ℕ) {ins need most : ℕ} → ins ≡ length (rowIns (F .rows)) → need ≡ Read.size 12 ins k (l .count) → need ≤ most → Read.size 12 (length (rowIns (F .rows))) k (l .count) ≤ most
   need-fits k {ins} {need} {most} e q h = subst (λ x. Read.size 12 x k (l .count) ≤ most) e (subst (λ x. x ≤ most) q h)
 
   -- what writing asks
   pub size-asks : {m : List ℕ} {k ins : ℕ} → Within size (l .count) o m k → ins ≡ length (rowIns (F .rows)) → (12 ≤ 14) × (l .count ≤ 32) × (ins < 32) × (k ≤ 4096)
-  size-asks w e = (omega arith, keeps .most, omega (arith, e, ap length (rows-ins part F sound l t keeps), ins-few part F sound l t keeps), omega (arith, w .few, w .count))
+  size-asks w e = (omega arith, keeps .most, omega (arith, e, few-ins), omega (arith, w .few, w .count))
 
   pub write-asks : {m : List ℕ} {k most : ℕ} → 4 * size + 12288 ≤ length m → Within size (l .count) o m k → Read.size 12 (length (rowIns (F .rows))) k (l .count) ≤ most
       → (12 ≤ 14) × FrontIn part (l .count) k (F .rows) × FormulaIn 12 m (4 * size) k 0 (2 * size) (l .count) × (Read.size 12 (length (rowIns (F .rows))) k (l .count) ≤ most)
-  write-asks {m} room w h = (omega arith, subst (λ k. FrontIn part (l .count) k (F .rows)) (sym (w .count)) (front-in part F sound l t keeps (w .few)), subst (λ k. FormulaIn 12 m (4 * size) k 0 (2 * size) (l .count)) (sym (w .count)) (formula-in part F sound l t keeps m room (w .few) (w .held)), h)
+  write-asks {m} room w h = (omega arith, subst (λ k. FrontIn part (l .count) k (F .rows)) (sym (w .count)) (front-in part F sound (l .count) (length (o .st)) (omega (arith, keeps .some-entry)) (keeps .most) (w .few)), subst (λ k. FormulaIn 12 m (4 * size) k 0 (2 * size) (l .count)) (sym (w .count)) (kept room (w .few) (w .held) .0), h)
 
 -- after 8 and 9, and on success, work memory is all zero
 pub late-memory : {A B : Type 0} {r : ℕ} (work : List ℕ) → Unless A 8 (Unless B 9 Granted) r → memoryAfter r work ≡ replicate (length work) 0

@@ -10,22 +10,17 @@ use lib.Dec.{eqb}
 use native.Mathlib.Decide.{decLt}
 use Rattle.meaning.specs.Bytes.{Bytes, word}
 use Rattle.meaning.specs.Entry.{Entry}
-use Rattle.meaning.specs.Formula.{Ref}
 use Rattle.meaning.specs.Fragment.{Fragment, rowCount, rowsOf}
-use Rattle.meaning.specs.Bound.{stepBound}
 use Rattle.meaning.specs.Reply.{tabulated, laidDown}
-use Rattle.meaning.proofs.Bound.{step-bound}
+use Rattle.meaning.proofs.Bound.{no-steps}
 use Rattle.question.specs.declared.List as L
 use Rattle.question.specs.Listed.{Kind, kindOf, EntryRule, Keeps, entryOf, listed}
-use Rattle.reply.specs.WellFormed.{Result, vars}
 use Rattle.reply.specs.Write.{write}
-use Rattle.reply.proofs.Lists.{tab-length, tab-at}
 use Rattle.meaning.specs.Refused.{Unless, refused, passed, Granted, granted}
 use Rattle.meaning.proofs.Refused.{One, one-granted, one-unless, beyond}
 use Rattle.depot.specs.Answer.{Call, call, laid, bytes, Late, Refusal, Answered, memoryAfter, bufferAfter}
-use Rattle.depot.specs.Promise.{OneAnswer, OnlyEight, NeverEight, LaidWellFormed, LaidBound, SameUse, Agree, UnusedIgnored}
-use Rattle.depot.proofs.Kept.{ins-few, whole}
-use Rattle.depot.proofs.Laid.{ins-fit, ins-differ, no-steps}
+use Rattle.depot.specs.Promise.{OneAnswer, OnlyEight, NeverEight, LaidWellFormed, SameUse, Agree, UnusedIgnored}
+use Rattle.writing.proofs.Laid.{laid-formed}
 use Rattle.question.proofs.Listed.{listed-length, keeps-earlier}
 
 -- ONE ANSWER
@@ -69,30 +64,9 @@ never-eight c work out r size w o a l m none = go (only-eight c work out r size 
 
 -- WELL FORMED
 pub laid-well-formed : LaidWellFormed
-unfolding laidDown vars
 laid-well-formed c l small few =
-    let w = whole (c .part) (c .fragment) (l .sound) (c .list) (c .text) (l .keeps) in record {
-      asked = l .asked;
-      number-fits = small;
-      fragment-fits = omega (arith, l .sound .number-most);
-      some-entry = rw listed-length (omega (arith, l .keeps .some-entry));
-      few-entries = rw listed-length (l .keeps .most);
-      v-all = tab-length _ _ _;
-      d-all = tab-length _ _ _;
-      few-ins = omega (arith, ins-few (c .part) (c .fragment) (l .sound) (c .list) (c .text) (l .keeps));
-      ins-fit = ins-fit (c .part) (c .fragment) (l .sound);
-      ins-differ = ins-differ (c .part) (c .fragment) (l .sound);
-      few-steps = few;
-      operands = w .good .each;
-      v-good = λ e h. subst (Result _ _) (sym (tab-at _ e _ Ref.low h)) (w .v e h);
-      d-good = λ e h. subst (Result _ _) (sym (tab-at _ e _ Ref.low h)) (w .d e h);
-    }
-
-pub laid-bound : LaidBound
-unfolding laidDown
-laid-bound c l isOpen tells =
-    subst (λ n. length (laid c .steps) ≤ stepBound n (rowsOf (c .fragment)) isOpen) (listed-length (c .list) (c .text))
-    (step-bound (c .part) (c .fragment) (l .sound) (listed (c .list) (c .text)) (keeps-earlier (c .list) (c .text) (l .keeps)) isOpen tells)
+    let n = listed-length (c .list) (c .text) in
+    laid-formed (c .number) (c .part) (c .fragment) (l .sound) (listed (c .list) (c .text)) (omega (arith, n, l .keeps .some-entry)) (omega (arith, n, l .keeps .most)) (l .asked) small few
 
 -- WHAT IS NOT USED
 same-entry : (t : Bytes) (q : Kind) (a b a′ b′ : ℕ) → SameUse q a b a′ b′ → entryOf t q a b ≡ entryOf t q a′ b′

@@ -1,15 +1,11 @@
 -- WHAT IS PROVED of a depot's answers: each promise is a type, and proofs/ has an element of it under its name (`one-answer` of `OneAnswer`).
 use Prim.Native.Nat.{ℕ, _+_, _*_, _^_, _<_, _≤_}
 use mathlib.Core.Path.{_≡_}
-use mathlib.Core.Bool.{Bool}
 use mathlib.Core.Logic.{_⊎_}
 use mathlib.Core.List.{List}
 use lib.ListN.{length, getD}
-use Rattle.meaning.specs.Says.{Says}
 use Rattle.meaning.specs.Bytes.{Bytes}
-use Rattle.meaning.specs.Bound.{Open, stepBound}
-use Rattle.meaning.specs.Fragment.{Fragment, Sound, rowCount, rowsOf}
-use Rattle.meaning.specs.Promise.{NoStandIn}
+use Rattle.meaning.specs.Fragment.{Fragment, Sound, rowCount, NoStandIn}
 use Rattle.question.specs.declared.List as L
 use Rattle.question.specs.Listed.{Kind, kindOf, Keeps}
 use Rattle.reply.specs.WellFormed.{WellFormed}
@@ -30,26 +26,21 @@ pub record RulesKept (c : Call) : Type 0 where
   pub sound : Sound (c .part) (c .fragment)
 
 -- with memory and room enough it is refused with 8 only, for too many steps, and never where the fragment has no stand-in
-pub record Roomy (c : Call) (work out : List ℕ) : Type 0 where
+pub record Enough (c : Call) (work out : List ℕ) : Type 0 where
   pub memory : 4 * (rowCount (c .fragment) * c .list .count) + 12288 ≤ length work
   pub room : length (bytes c) ≤ length out
 
 abbrev pub OnlyEight : Type 0
-OnlyEight = (c : Call) (work out : List ℕ) (r size : ℕ) (w o : List ℕ) → Answered c work out r size w o → RulesKept c → Roomy c work out
+OnlyEight = (c : Call) (work out : List ℕ) (r size : ℕ) (w o : List ℕ) → Answered c work out r size w o → RulesKept c → Enough c work out
     → (r ≡ 0) ⊎ ((r ≡ 8) × (4096 < length (laid c .steps)))
 
 abbrev pub NeverEight : Type 0
-NeverEight = (c : Call) (work out : List ℕ) (r size : ℕ) (w o : List ℕ) → Answered c work out r size w o → RulesKept c → Roomy c work out
+NeverEight = (c : Call) (work out : List ℕ) (r size : ℕ) (w o : List ℕ) → Answered c work out r size w o → RulesKept c → Enough c work out
     → NoStandIn (c .fragment) → r ≡ 0
 
 -- the reply laid down is well formed, where it has at most 4,096 steps
 abbrev pub LaidWellFormed : Type 0
 LaidWellFormed = (c : Call) → RulesKept c → c .number < 2 ^ 32 → length (laid c .steps) ≤ 4096 → WellFormed (laid c)
-
--- entries × (4 × open rows + 2 × stand-ins) bounds its steps
-abbrev pub LaidBound : Type 0
-LaidBound = (c : Call) → RulesKept c → (isOpen : ℕ → Bool) → ((k : ℕ) → k < rowCount (c .fragment) → Says (Open (rowsOf (c .fragment)) k) (isOpen k))
-    → length (laid c .steps) ≤ stepBound (c .list .count) (rowsOf (c .fragment)) isOpen
 
 -- what an entry of a kind uses of its operands
 abbrev pub SameUse : Kind → ℕ → ℕ → ℕ → ℕ → Type 0

@@ -19,11 +19,11 @@ ghost use Rattle.depot.specs.Answer.{call, Answered};
 // The number of refusal, 0 for none, and the reply's size in bytes, 0 on refusal.
 #[repr(C)]
 pub struct Answer {
-    pub refusal: u8,
+    pub refusal: usize,
     pub size: usize,
 }
 
-fn refusing(n: u8) -> Answer
+fn refusing(n: usize) -> Answer
     ensures { λ r. ⌜ (r .refusal ≡ n) × (r .size ≡ 0) ⌝ }
 {
     Answer {

@@ -13,7 +13,7 @@ use lib.Seq.{take-all, take-length, drop-drop}
 use Rattle.meaning.specs.Bytes.{Bytes}
 use Rattle.meaning.specs.Algebra.{bool}
 use Rattle.meaning.specs.Reply.{Reply}
-use Rattle.meaning.specs.Solve.{Values, solved, solve, blank, Outcome, waiting, said, isHeard, allHeard, outcome}
+use Rattle.meaning.specs.Solve.{Values, solved, solve, noValues, Outcome, waiting, said, isHeard, allHeard, outcome}
 use Rattle.meaning.proofs.Numbers.{eqb-true, eqb-false}
 use Rattle.reply.specs.Read.{Is}
 use Rattle.reply.specs.inner.Decode.{read}
@@ -147,7 +147,7 @@ module _ (q : Question) (store : Bytes) where
   says-waiting few n = go (allHeard (held q store) (q .parts)) refl
     where
       a : Outcome
-      a = said (solve bool (q .entries) (held q store) (q .parts) (blank bool (q .entries)) .v 0 (q .entries - 1))
+      a = said (solve bool (q .entries) (held q store) (q .parts) (noValues bool (q .entries)) .v 0 (q .entries - 1))
 
       go : (b : Bool) → allHeard (held q store) (q .parts) ≡ b → 0 ≡ saidOf (cond b a waiting)
       go true e = absurd (n (λ f l. (omega arith, heard-of f (each-heard (q .parts) e f l))))
@@ -166,27 +166,27 @@ module _ (q : Question) (store : Bytes) where
         solve-held k (omega arith) (solved bool (q .entries) (held q store k) k S)
         ∙ ap (λ o. solve bool (q .entries) (kept q store) k (solved bool (q .entries) o k S)) (held-is k l)
 
-    answer-bit : answerOf q store ≡ bit (solve bool (q .entries) (held q store) (q .parts) (blank bool (q .entries)) .v 0 (q .entries - 1))
+    answer-bit : answerOf q store ≡ bit (solve bool (q .entries) (held q store) (q .parts) (noValues bool (q .entries)) .v 0 (q .entries - 1))
     unfolding answerOf
     answer-bit =
         solved-same (q .entries) (kept q store) (q .parts) .v-same 0 (q .entries - 1)
-        ∙ ap (λ (S : Values Bool). bit (S .v 0 (q .entries - 1))) (sym (solve-held (q .parts) (omega arith) (blank bool (q .entries))))
+        ∙ ap (λ (S : Values Bool). bit (S .v 0 (q .entries - 1))) (sym (solve-held (q .parts) (omega arith) (noValues bool (q .entries))))
 
-    pub outcome-is : outcome (q .entries) (q .parts) (held q store) ≡ said (solve bool (q .entries) (held q store) (q .parts) (blank bool (q .entries)) .v 0 (q .entries - 1))
+    pub outcome-is : outcome (q .entries) (q .parts) (held q store) ≡ said (solve bool (q .entries) (held q store) (q .parts) (noValues bool (q .entries)) .v 0 (q .entries - 1))
     unfolding outcome
     outcome-is =
-        ap (λ b. cond b (said (solve bool (q .entries) (held q store) (q .parts) (blank bool (q .entries)) .v 0 (q .entries - 1))) waiting)
+        ap (λ b. cond b (said (solve bool (q .entries) (held q store) (q .parts) (noValues bool (q .entries)) .v 0 (q .entries - 1))) waiting)
         (all-heard (q .parts) (λ f l. ap isHeard (held-is f l)))
 
     pub answers-no : (x : ℕ) → x ≡ answerOf q store → x ≡ 0 → 1 ≡ saidOf (outcome (q .entries) (q .parts) (held q store))
-    answers-no x e z = go (solve bool (q .entries) (held q store) (q .parts) (blank bool (q .entries)) .v 0 (q .entries - 1)) (sym z ∙ e ∙ answer-bit) ∙ ap saidOf (sym outcome-is)
+    answers-no x e z = go (solve bool (q .entries) (held q store) (q .parts) (noValues bool (q .entries)) .v 0 (q .entries - 1)) (sym z ∙ e ∙ answer-bit) ∙ ap saidOf (sym outcome-is)
       where
         go : (b : Bool) → 0 ≡ bit b → 1 ≡ saidOf (said b)
         go true e = absurd (omega arith)
         go false e = refl
 
     pub answers-yes : (x : ℕ) → x ≡ answerOf q store → x ≢ 0 → 2 ≡ saidOf (outcome (q .entries) (q .parts) (held q store))
-    answers-yes x e z = go (solve bool (q .entries) (held q store) (q .parts) (blank bool (q .entries)) .v 0 (q .entries - 1)) (λ k. z (e ∙ answer-bit ∙ k)) ∙ ap saidOf (sym outcome-is)
+    answers-yes x e z = go (solve bool (q .entries) (held q store) (q .parts) (noValues bool (q .entries)) .v 0 (q .entries - 1)) (λ k. z (e ∙ answer-bit ∙ k)) ∙ ap saidOf (sym outcome-is)
       where
         go : (b : Bool) → bit b ≢ 0 → 2 ≡ saidOf (said b)
         go true e = refl

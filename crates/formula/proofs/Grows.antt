@@ -4,14 +4,14 @@ use native.Mathlib.Omega.{arith}
 use native.Mathlib.Nat.{le-refl}
 use mathlib.Core.Path.{_≡_}
 use mathlib.Core.Bool.{Bool, true, false, cond}
-use mathlib.Core.Option.{Option, none, some}
 use mathlib.Core.List.{List, [], _∷_}
 use lib.ListN.{length, length-append}
 use lib.Dec.{eqb}
 use borrow.Author.Tests.{le-ltb}
 use Rattle.meaning.specs.Bytes.{Bytes, labelIs, textIs}
 use Rattle.meaning.specs.Entry.{Entry}
-use Rattle.meaning.specs.Formula.{Ref, Step, constant, sorted, joined, negated, formula}
+use Rattle.meaning.specs.Formula.{Ref, Step, negated, formula}
+use Rattle.meaning.proofs.Formula.{join, joins}
 use Rattle.meaning.specs.Fragment.{Fragment, Rows}
 use Rattle.meaning.specs.Run.{Vectors, Tables, upd, valueOf, visit, push, row, deliver, sweep}
 use Rattle.question.specs.declared.List as L
@@ -90,15 +90,8 @@ module _ (l : L.List) (t : Bytes) (F : Fragment) (size : ℕ) where
   deliver-over k place s h = both Stays (eqb k 0) (row-over k place s h) (across-over (liftF size _ _) (λ i s h. lift-over size _ _ i s h) 0 (l .count) _ (row-over k place s h))
 
 -- THE LIST GETS NO SHORTER
-pub joined-grows : (z : Bool) (k : Ref → Ref → Step) (s : List Step) (a b : Ref) → length s ≤ length (joined z k s a b .0)
-joined-grows z k s a b = go (constant a) (constant b)
-  where
-    go : (o p : Option Bool) → length s ≤ length (sorted z s a b (k a b) o p .0)
-    go (some true) p = le-refl _
-    go (some false) p = le-refl _
-    go none (some true) = le-refl _
-    go none (some false) = le-refl _
-    go none none = rw length-append (omega arith)
+pub join-grows : (z : Bool) (s : List Step) (a b : Ref) → length s ≤ length (join z s a b .0)
+join-grows z s a b = joins s a b (λ o. length s ≤ length (o .0)) z (λ e. le-refl _) (λ e. le-refl _) (λ e. le-refl _) (λ e. le-refl _) (λ e f. rw length-append (omega arith))
 
 pub negated-grows : (s : List Step) (a : Ref) → length s ≤ length (negated s a .0)
 negated-grows s Ref.low = le-refl _
@@ -112,10 +105,10 @@ module _ (lab txt : Bytes → Bool) where
   value-grows (Entry.label w) s v c d = le-refl _
   value-grows (Entry.text w) s v c d = le-refl _
   value-grows (Entry.child q) s v c d = le-refl _
-  value-grows (Entry.at p q) s v c d = joined-grows false Step.and s (v p) (v q)
+  value-grows (Entry.at p q) s v c d = join-grows false s (v p) (v q)
   value-grows (Entry.lower q) s v c d = le-refl _
-  value-grows (Entry.or p q) s v c d = joined-grows true Step.or s (v p) (v q)
-  value-grows (Entry.and p q) s v c d = joined-grows false Step.and s (v p) (v q)
+  value-grows (Entry.or p q) s v c d = join-grows true s (v p) (v q)
+  value-grows (Entry.and p q) s v c d = join-grows false s (v p) (v q)
   value-grows (Entry.not q) s v c d = negated-grows s (v q)
 
   pub visit-grows : (c : ℕ → Ref) (l : List (Entry Bytes)) (i : ℕ) (s : List Step) (v d : ℕ → Ref) → length s ≤ length (visit formula lab txt c l i s v d .st)
@@ -123,16 +116,16 @@ module _ (lab txt : Bytes → Bool) where
   visit-grows c [] i s v d = le-refl _
   visit-grows c (e ∷ l) i s v d =
       let a = valueOf formula lab txt e s v c d in
-      let b = joined true Step.or (a .0) (a .1) (d i) in
-      omega (arith, value-grows e s v c d, joined-grows true Step.or (a .0) (a .1) (d i), visit-grows c l (suc i) (b .0) (upd v i (a .1)) (upd d i (b .1)))
+      let b = join true (a .0) (a .1) (d i) in
+      omega (arith, value-grows e s v c d, join-grows true (a .0) (a .1) (d i), visit-grows c l (suc i) (b .0) (upd v i (a .1)) (upd d i (b .1)))
 
 pub push-grows : (v d : ℕ → Ref) (n i : ℕ) (s : List Step) (pc pd : ℕ → Ref) → length s ≤ length (push formula v d n i s pc pd .st)
 unfolding push
 push-grows v d zero i s pc pd = le-refl _
 push-grows v d (suc n) i s pc pd =
-    let a = joined true Step.or s (pc i) (v i) in
-    let b = joined true Step.or (a .0) (pd i) (d i) in
-    omega (arith, joined-grows true Step.or s (pc i) (v i), joined-grows true Step.or (a .0) (pd i) (d i), push-grows v d n (suc i) (b .0) (upd pc i (a .1)) (upd pd i (b .1)))
+    let a = join true s (pc i) (v i) in
+    let b = join true (a .0) (pd i) (d i) in
+    omega (arith, join-grows true s (pc i) (v i), join-grows true (a .0) (pd i) (d i), push-grows v d n (suc i) (b .0) (upd pc i (a .1)) (upd pd i (b .1)))
 
 module _ (R : Rows) (es : List (Entry Bytes)) (varV varD : ℕ → ℕ → Ref) where
   pub row-grows : (k : ℕ) (S : Tables formula) → length (S .st) ≤ length (row formula R es varV varD k S .st)

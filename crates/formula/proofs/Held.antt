@@ -1,5 +1,5 @@
 -- THE STEPS IN MEMORY, and joining as the formula does, until there are over 4,096.
-use Prim.Native.Nat.{ℕ, zero, suc, _+_, _-_, _*_, _<_, _≤_}
+use Prim.Native.Nat.{ℕ, zero, suc, _+_, _*_, _<_, _≤_}
 use native.Mathlib.Numerals.{add-one, add-two, add-three}
 use native.Mathlib.Nat.{add-assoc}
 use native.Mathlib.Omega.{arith}
@@ -11,7 +11,8 @@ use lib.ListN.{length, getD, set, take, drop, length-set, length-drop, length-ap
 use lib.Seq.{getD-set-other, drop-set-add}
 use lib.Dec.{ltb}
 use borrow.Author.Tests.{ltb-true, ltb-false, eq-eqb, ne-eqb}
-use Rattle.meaning.specs.Formula.{Ref, Step, constant, sorted, joined, negated}
+use Rattle.meaning.specs.Formula.{Ref, Step, constant, negated}
+use Rattle.meaning.proofs.Formula.{joinOf, join}
 use Rattle.writing.specs.inner.Codes.{code, stepNumbers, numbers}
 use Rattle.formula.specs.inner.Flat.{Got, got, stepAt, addF, joinF, notF}
 
@@ -120,13 +121,9 @@ abbrev pub opOf : Bool → ℕ
 opOf true = 1
 opOf false = 0
 
-abbrev pub stepOf : Bool → Ref → Ref → Step
-stepOf true a b = Step.or a b
-stepOf false a b = Step.and a b
-
 module _ (size : ℕ) (m : List ℕ) (n : ℕ) (s : List Step) (counts : n ≡ length s) (most : length s ≤ 4096) (h : Held size m s) where
   join-at : (z : Bool) (a b : Ref) (o p : Option Bool) → View (code a) o → View (code b) p
-      → Sim (joinF size (opOf z) (code a) (code b) m n .steps) (sorted z s a b (stepOf z a b) o p .0) (Gave size m (joinF size (opOf z) (code a) (code b) m n) (sorted z s a b (stepOf z a b) o p .0) (sorted z s a b (stepOf z a b) o p .1))
+      → Sim (joinF size (opOf z) (code a) (code b) m n .steps) (joinOf z s a b o p .0) (Gave size m (joinF size (opOf z) (code a) (code b) m n) (joinOf z s a b o p .0) (joinOf z s a b o p .1))
   unfolding joinF
   join-at true a b _ p (high e) w = simp (eq-eqb (code a) 4096 e) (keep size m n s counts most h a refl)
   join-at true a b _ p (low e) w = simp (ne-eqb (code a) 4096 (λ q. omega arith), eq-eqb (code a) 0 e) (keep size m n s counts most h b refl)
@@ -140,7 +137,7 @@ module _ (size : ℕ) (m : List ℕ) (n : ℕ) (s : List Step) (counts : n ≡ l
   join-at false a b _ _ (free x y) (free x′ y′) = simp (ne-eqb (code a) 4096 y, ne-eqb (code a) 0 x, ne-eqb (code b) 4096 y′, ne-eqb (code b) 0 x′) (add-sim size m n s counts most h (Step.and a b) 0 (code a) (code b) refl)
 
   pub join-sim : (z : Bool) (a b : Ref) {x y : ℕ} → x ≡ code a → y ≡ code b
-      → Sim (joinF size (opOf z) x y m n .steps) (joined z (stepOf z) s a b .0) (Gave size m (joinF size (opOf z) x y m n) (joined z (stepOf z) s a b .0) (joined z (stepOf z) s a b .1))
+      → Sim (joinF size (opOf z) x y m n .steps) (join z s a b .0) (Gave size m (joinF size (opOf z) x y m n) (join z s a b .0) (join z s a b .1))
   join-sim z a b p q = rw (p, q) (join-at z a b (constant a) (constant b) (view a) (view b))
 
   not-at : (a : Ref) → Sim (notF size (code a) m n .steps) (negated s a .0) (Gave size m (notF size (code a) m n) (negated s a .0) (negated s a .1))

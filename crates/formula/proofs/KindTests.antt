@@ -1,13 +1,11 @@
 -- What a kind's code is, from the tests that the code makes of it.
-use Prim.Native.Nat.{ℕ, zero, suc, _+_, _-_, _≤_, _<_}
+use Prim.Native.Nat.{ℕ, zero, suc, _+_, _≤_, _<_}
 use native.Mathlib.Omega.{arith}
-use mathlib.Core.Path.{_≡_, refl, sym, ap, _∙_, subst}
-use mathlib.Core.Bool.{Bool, false}
-use mathlib.Core.Logic.{_⊎_, inl, inr}
+use mathlib.Core.Path.{_≡_, refl, _∙_, subst}
+use mathlib.Core.Bool.{Bool}
 use mathlib.Core.List.{List}
 use lib.ListN.{length, getD}
 use native.Mathlib.Decide.{decLt}
-use Rattle.meaning.specs.Says.{Says, nay}
 use Rattle.meaning.specs.Bytes.{Bytes, word}
 use Rattle.meaning.specs.Fragment.{Fragment}
 use Rattle.formula.specs.inner.Flat.{St, got, Reads, truth, joinF, valueF, testF, enterF, entryF}

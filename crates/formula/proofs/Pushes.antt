@@ -1,17 +1,18 @@
 -- A ROW'S PART IN ITS PARENT, in memory as the run pushes it.
-use Prim.Native.Nat.{ℕ, zero, suc, _+_, _-_, _*_, _<_, _≤_}
+use Prim.Native.Nat.{ℕ, zero, suc, _+_, _*_, _<_, _≤_}
 use native.Mathlib.Omega.{arith}
 use mathlib.Core.Path.{_≡_, refl, ap, _∙_}
 use mathlib.Core.Bool.{true}
 use mathlib.Core.List.{List}
 use lib.ListN.{length, getD, set}
 use lib.Seq.{getD-set-same, getD-set-other}
-use Rattle.meaning.specs.Formula.{Ref, Step, joined, formula}
+use Rattle.meaning.specs.Formula.{Ref, Step, formula}
+use Rattle.meaning.proofs.Formula.{join}
 use Rattle.meaning.specs.Run.{Delivered, upd, push}
 use Rattle.writing.specs.inner.Codes.{code}
 use Rattle.formula.specs.inner.Flat.{St, Got, across, joinF, orInto, liftF}
 use Rattle.formula.proofs.Held.{Held, Sim, live, after, mapped, Gave, join-sim}
-use Rattle.formula.proofs.Grows.{or-over, lift-over, across-over, joined-grows, push-grows}
+use Rattle.formula.proofs.Grows.{or-over, lift-over, across-over, join-grows, push-grows}
 use Rattle.formula.proofs.Visits.{held-set, changed}
 
 -- the number at i is the reference r's, and every other before the steps is as it was
@@ -21,14 +22,14 @@ record Put (size i : ℕ) (m m′ : List ℕ) (s : List Step) (r : Ref) : Type 0
   same : (j : ℕ) → j < 4 * size → (j ≡ i → ⊥) → getD m′ j 0 ≡ getD m j 0
 
 or-sim : (size i j : ℕ) (z : St) (s : List Step) (a b : Ref) → i < 4 * size → z .steps ≡ length s → length s ≤ 4096 → Held size (z .mem) s → getD (z .mem) i 0 ≡ code a → getD (z .mem) j 0 ≡ code b
-    → Sim (orInto size i j z .steps) (joined true Step.or s a b .0) (Put size i (z .mem) (orInto size i j z .mem) (joined true Step.or s a b .0) (joined true Step.or s a b .1))
+    → Sim (orInto size i j z .steps) (join true s a b .0) (Put size i (z .mem) (orInto size i j z .mem) (join true s a b .0) (join true s a b .1))
 unfolding orInto
 or-sim size i j z s a b inside counts most h p q = mapped put (join-sim size (z .mem) (z .steps) s counts most h true a b p q)
   where
     g : Got
     g = joinF size 1 (getD (z .mem) i 0) (getD (z .mem) j 0) (z .mem) (z .steps)
 
-    put : Gave size (z .mem) g (joined true Step.or s a b .0) (joined true Step.or s a b .1) → Put size i (z .mem) (set (g .mem) i (g .code)) (joined true Step.or s a b .0) (joined true Step.or s a b .1)
+    put : Gave size (z .mem) g (join true s a b .0) (join true s a b .1) → Put size i (z .mem) (set (g .mem) i (g .code)) (join true s a b .0) (join true s a b .1)
     put y = record {
       held = held-set size (g .mem) _ i (g .code) inside (y .held);
       stored = getD-set-same (g .mem) i (g .code) 0 (omega (arith, y .held .room)) ∙ y .coded;
@@ -60,15 +61,15 @@ record Lifted (size at up n e : ℕ) (m m′ : List ℕ) (s : List Step) (v d pc
 module _ (size at up n : ℕ) (above : up + n ≤ at) (fits : at + n ≤ size) (v d : ℕ → Ref) where
   -- C becomes C or V, then D becomes D or this D
   lift-sim : (e : ℕ) (z : St) (s : List Step) (pc pd : ℕ → Ref) → e < n → z .steps ≡ length s → length s ≤ 4096 → Pushing size at up n (z .mem) s v d pc pd
-      → Sim (liftF size at up e z .steps) (joined true Step.or (joined true Step.or s (pc e) (v e) .0) (pd e) (d e) .0)
-      (Lifted size at up n e (z .mem) (liftF size at up e z .mem) (joined true Step.or (joined true Step.or s (pc e) (v e) .0) (pd e) (d e) .0) v d
-      (upd pc e (joined true Step.or s (pc e) (v e) .1)) (upd pd e (joined true Step.or (joined true Step.or s (pc e) (v e) .0) (pd e) (d e) .1)))
+      → Sim (liftF size at up e z .steps) (join true (join true s (pc e) (v e) .0) (pd e) (d e) .0)
+      (Lifted size at up n e (z .mem) (liftF size at up e z .mem) (join true (join true s (pc e) (v e) .0) (pd e) (d e) .0) v d
+      (upd pc e (join true s (pc e) (v e) .1)) (upd pd e (join true (join true s (pc e) (v e) .0) (pd e) (d e) .1)))
   unfolding liftF
   lift-sim e z s pc pd inside counts most h =
       after (or-sim size i₁ (at + e) z s (pc e) (v e) (omega arith) counts most (h .held) (h .upC e inside) (h .here e inside))
       (λ a b p. mapped (lifted p)
       (or-sim size i₂ (2 * size + at + e) y (x .0) (pd e) (d e) (omega arith) a b (p .held) (p .same i₂ (omega arith) (λ w. omega arith) ∙ h .upD e inside) (p .same (2 * size + at + e) (omega arith) (λ w. omega arith) ∙ h .lower e inside)))
-      (λ a. or-over size i₂ (2 * size + at + e) y a) (joined-grows true Step.or (x .0) (pd e) (d e))
+      (λ a. or-over size i₂ (2 * size + at + e) y a) (join-grows true (x .0) (pd e) (d e))
     where
       i₁ : ℕ
       i₁ = size + up + e
@@ -80,10 +81,10 @@ module _ (size at up n : ℕ) (above : up + n ≤ at) (fits : at + n ≤ size) (
       y = orInto size i₁ (at + e) z
 
       x : List Step × Ref
-      x = joined true Step.or s (pc e) (v e)
+      x = join true s (pc e) (v e)
 
       w : List Step × Ref
-      w = joined true Step.or (x .0) (pd e) (d e)
+      w = join true (x .0) (pd e) (d e)
 
       lifted : Put size i₁ (z .mem) (y .mem) (x .0) (x .1) → {m′ : List ℕ} → Put size i₂ (y .mem) m′ (w .0) (w .1) → Lifted size at up n e (z .mem) m′ (w .0) v d (upd pc e (x .1)) (upd pd e (w .1))
       lifted p {m′} q = record {
@@ -105,8 +106,8 @@ module _ (size at up n : ℕ) (above : up + n ≤ at) (fits : at + n ≤ size) (
   unfolding across push
   push-from zero i sum z s pc pd counts most h = live counts most (record { held = h .held; c = h .upC; d = h .upD; rest = λ j l a b. refl })
   push-from (suc r) i sum z s pc pd counts most h =
-      let x = joined true Step.or s (pc i) (v i) in
-      let y = joined true Step.or (x .0) (pd i) (d i) in
+      let x = join true s (pc i) (v i) in
+      let y = join true (x .0) (pd i) (d i) in
       after (lift-sim i z s pc pd (omega arith) counts most h)
       (λ a b p. mapped (λ o. record { held = o .held; c = o .c; d = o .d; rest = λ j l u w. o .rest j l u w ∙ p .rest j l u w })
       (push-from r (suc i) (omega arith) (liftF size at up i z) (y .0) (upd pc i (x .1)) (upd pd i (y .1)) a b (p .going)))

@@ -1,5 +1,5 @@
 -- ALL ROWS in memory, as the run sweeps them; and what is left at the end.
-use Prim.Native.Nat.{ℕ, zero, suc, _+_, _-_, _*_, _<_, _≤_}
+use Prim.Native.Nat.{ℕ, zero, suc, _+_, _*_, _<_, _≤_}
 use native.Mathlib.Omega.{arith}
 use native.Mathlib.Nat.{add-zero}
 use native.Mathlib.Decide.{ℕ-discrete, decLt}
@@ -26,7 +26,6 @@ use Rattle.formula.specs.inner.Flat.{St, st, downFrom, stands, rowF, del
 use Rattle.formula.proofs.Held as Held
 use Rattle.formula.proofs.Held.{Sim, after, mapped}
 use Rattle.formula.proofs.Grows.{deliver-over, down-over, across-over, lift-over, push-grows, row-grows, sweep-grows}
-use Rattle.reply.proofs.Lists.{tab-length}
 use Rattle.formula.proofs.Counts.{count-is}
 use Rattle.fragment.proofs.Rules.{block, sound-parent}
 use Rattle.question.proofs.Listed.{listed-length}

@@ -1,5 +1,5 @@
 -- ONE ROW in memory, as the run visits it.
-use Prim.Native.Nat.{ℕ, zero, suc, _+_, _-_, _*_, _<_, _≤_}
+use Prim.Native.Nat.{ℕ, zero, suc, _+_, _*_, _<_, _≤_}
 use native.Mathlib.Omega.{arith}
 use native.Mathlib.Decide.{ℕ-discrete}
 use mathlib.Core.Path.{_≡_, refl, sym, ap, _∙_}
@@ -9,7 +9,8 @@ use lib.ListN.{length, getD, set, length-set}
 use lib.Seq.{getD-set-same, getD-set-other, drop-set-lt}
 use Rattle.meaning.specs.Bytes.{Bytes, word, labelIs, textIs}
 use Rattle.meaning.specs.Entry.{Entry}
-use Rattle.meaning.specs.Formula.{Ref, Step, joined, formula}
+use Rattle.meaning.specs.Formula.{Ref, Step, formula}
+use Rattle.meaning.proofs.Formula.{join}
 use Rattle.meaning.specs.Fragment.{Fragment, rowsOf}
 use Rattle.meaning.specs.Run.{Vectors, upd, literal, valueOf, visit}
 use Rattle.meaning.specs.Reply.{tabulated}
@@ -20,7 +21,7 @@ use Rattle.writing.specs.inner.Codes.{code}
 use Rattle.formula.specs.inner.Flat.{St, st, Got, across, joinF, truth, testF, Reads, valueF, enterF, entryF, varF}
 use Rattle.formula.proofs.KindTests.{rule-reads}
 use Rattle.formula.proofs.Held.{Held, Sim, live, after, mapped, Gave, keep, join-sim, not-sim}
-use Rattle.formula.proofs.Grows.{join-over, entry-over, across-over, joined-grows, visit-grows}
+use Rattle.formula.proofs.Grows.{join-over, entry-over, across-over, join-grows, visit-grows}
 
 -- TWO NUMBERS STORED
 module _ (m : List ℕ) (p q x y : ℕ) (apart : p < q) (inside : q < length m) where
@@ -121,11 +122,11 @@ module _ (t : Bytes) (F : Fragment) (k : ℕ) (size at n : ℕ) (fits : at + n �
     -- V by its kind, then D becomes V or D
     enter-sim : (q : Kind) (a b : ℕ) → Reads e q a b
         → Sim (enterF size at e q a b (testF t F k q a b) (st m ks) .steps)
-        (joined true Step.or (valueOf formula lab txt (entryOf t q a b) s v c d .0) (valueOf formula lab txt (entryOf t q a b) s v c d .1) (d e) .0)
+        (join true (valueOf formula lab txt (entryOf t q a b) s v c d .0) (valueOf formula lab txt (entryOf t q a b) s v c d .1) (d e) .0)
         (Entered size at n e m (enterF size at e q a b (testF t F k q a b) (st m ks) .mem)
-        (joined true Step.or (valueOf formula lab txt (entryOf t q a b) s v c d .0) (valueOf formula lab txt (entryOf t q a b) s v c d .1) (d e) .0)
+        (join true (valueOf formula lab txt (entryOf t q a b) s v c d .0) (valueOf formula lab txt (entryOf t q a b) s v c d .1) (d e) .0)
         (upd v e (valueOf formula lab txt (entryOf t q a b) s v c d .1)) c
-        (upd d e (joined true Step.or (valueOf formula lab txt (entryOf t q a b) s v c d .0) (valueOf formula lab txt (entryOf t q a b) s v c d .1) (d e) .1)))
+        (upd d e (join true (valueOf formula lab txt (entryOf t q a b) s v c d .0) (valueOf formula lab txt (entryOf t q a b) s v c d .1) (d e) .1)))
     unfolding enterF
     enter-sim q a b r =
         let g : Got = valueF size at q a b (testF t F k q a b) m ks in
@@ -133,7 +134,7 @@ module _ (t : Bytes) (F : Fragment) (k : ℕ) (size at n : ℕ) (fits : at + n �
         after (value-sim q a b r)
         (λ u w y. mapped (stored g (joinF size 1 (g .code) (getD (g .mem) (2 * size + at + e) 0) (g .mem) (g .steps)) (x .0) _ (x .1) _ y)
         (join-sim size (g .mem) (g .steps) (x .0) u w (y .held) true (x .1) (d e) (y .coded) (y .same (2 * size + at + e) (omega arith) ∙ h .lower e inside)))
-        (λ u. join-over size 1 (g .code) (getD (g .mem) (2 * size + at + e) 0) (g .mem) (g .steps) u) (joined-grows true Step.or (x .0) (x .1) (d e))
+        (λ u. join-over size 1 (g .code) (getD (g .mem) (2 * size + at + e) 0) (g .mem) (g .steps) u) (join-grows true (x .0) (x .1) (d e))
 
   -- all entries
   module _ (l : L.List) (keeps : Keeps l t) (all : l .count ≡ n) (c : ℕ → Ref) where
@@ -147,7 +148,7 @@ module _ (t : Bytes) (F : Fragment) (k : ℕ) (size at n : ℕ) (fits : at + n �
     visit-sim (suc r) i sum z s v d counts most h =
         let q : Kind = kindOf (getD (l .kinds) i 0) in
         let x = valueOf formula lab txt (entryAt i) s v c d in
-        let y = joined true Step.or (x .0) (x .1) (d i) in
+        let y = join true (x .0) (x .1) (d i) in
         after (enter-sim i (z .mem) (z .steps) s v c d (omega arith) counts most h q (getD (l .left) i 0) (getD (l .right) i 0) (rule-reads t i q (getD (l .left) i 0) (getD (l .right) i 0) (keeps .each i (omega arith))))
         (λ a b E. mapped (λ o. record { held = o .held; v = o .v; d = o .d; same = λ j u w. o .same j u w ∙ E .same j u w })
         (visit-sim r (suc i) (omega arith) (entryF l t F size at k i z) (y .0) (upd v i (x .1)) (upd d i (y .1)) a b (E .row)))

@@ -19,9 +19,9 @@ ghost use Rattle.formula.specs.inner.Flat.{st, Room, Ruled, Gives, Does,
 const TRUE: u16 = 4096;
 
 // A reference, and how many steps there are; 4097 where one did not fit.
-pub struct Coded {
-    pub code: u16,
-    pub steps: usize,
+struct Coded {
+    code: u16,
+    steps: usize,
 }
 
 fn byte(x: u8) -> usize

@@ -1,6 +1,6 @@
 -- THE STEP BOUND. A row with no stand-in at or below it has constants only and makes no step; any other makes at most two for each
 -- entry when it is visited and two when it is delivered.
-use Prim.Native.Nat.{ℕ, zero, suc, _+_, _-_, _*_, _≤_, _<_}
+use Prim.Native.Nat.{ℕ, zero, suc, _+_, _*_, _≤_, _<_}
 use native.Mathlib.Omega.{arith}
 use native.Mathlib.Decide.{ℕ-discrete}
 use native.Mathlib.Nat.{add-zero, zero-add, suc-add, add-suc, le-refl}
@@ -13,18 +13,20 @@ use lib.Dec.{eqb}
 use Rattle.meaning.specs.Says.{Says, aye, nay}
 use Rattle.meaning.specs.Bytes.{Bytes, labelIs, textIs}
 use Rattle.meaning.specs.Entry.{Entry, Points, Earlier}
-use Rattle.meaning.specs.Formula.{Ref, Step, added, constant, sorted, joined, negated, formula}
-use Rattle.meaning.specs.Fragment.{Rows, rowsOf, alone}
+use Rattle.meaning.specs.Formula.{Ref, Step, constant, negated, formula}
+use Rattle.meaning.specs.Fragment.{Fragment, Sound, Rows, rowCount, rowsOf, alone, NoStandIn}
+use Rattle.meaning.specs.Tree.{Below, here, down}
 use Rattle.meaning.specs.Run.{upd, literal, Vectors, Delivered, Tables, valueOf, visit, push, row, deliver, sweep, run}
 use Rattle.meaning.specs.Reply.{standIns, varV, varD, laidDown}
 use Rattle.meaning.specs.Bound.{Open, count, stepBound}
 use Rattle.meaning.specs.Promise.{StepBound}
-use Rattle.meaning.proofs.Says.{says-iff, says-and, says-not, says-self, says-same}
+use Rattle.meaning.proofs.Says.{says-and, says-self, says-same}
 use Rattle.meaning.proofs.Says as Lists
 use Rattle.meaning.proofs.Tree.{Finite, deep, deep-step, deep-says}
 use Rattle.meaning.proofs.Entry.{length-snoc}
-use Rattle.meaning.proofs.Numbers.{eqb-true, eqb-false, upd-same, upd-other}
-use Rattle.meaning.proofs.Placed.{ups, Placed, kids-later}
+use Rattle.meaning.proofs.Formula.{join, joins}
+use Rattle.meaning.proofs.Numbers.{eqb-true, upd-same, upd-other}
+use Rattle.meaning.proofs.Placed.{ups, kids-later}
 use Rattle.meaning.proofs.Fragment.{Upright, row-inside, sound-upright, alone-finite, alone-placed}
 
 -- CONSTANTS make no step
@@ -32,40 +34,19 @@ record Const (r : Ref) : Type 0 where
   bool : Bool
   is : constant r ≡ some bool
 
-one-more : (z : Bool) (k : Ref → Ref → Step) (s : List Step) (a b : Ref) → length (joined z k s a b .0) ≤ suc (length s)
-one-more z k s a b = go (constant a) (constant b)
-  where
-    go : (o p : Option Bool) → length (sorted z s a b (k a b) o p .0) ≤ suc (length s)
-    go (some true) p = omega arith
-    go (some false) p = omega arith
-    go none (some true) = omega arith
-    go none (some false) = omega arith
-    go none none = rw length-snoc (le-refl _)
+-- joining makes one step at most
+one-more : (z : Bool) (s : List Step) (a b : Ref) → length (join z s a b .0) ≤ suc (length s)
+one-more z s a b = joins s a b (λ o. length (o .0) ≤ suc (length s)) z (λ e. omega arith) (λ e. omega arith) (λ e. omega arith) (λ e. omega arith) (λ e f. rw length-snoc (le-refl _))
+
+some-none : {o : Option Bool} (b : Bool) → o ≡ some b → o ≡ none → ⊥
+some-none b e f = let i : _≡_ {A = ℕ} 0 1 = cc in omega arith
 
 -- joined with a constant on the right, no step; with one on the left too, a constant
-no-more : (z : Bool) (k : Ref → Ref → Step) (s : List Step) (a b : Ref) → Const b → length (joined z k s a b .0) ≤ length s
-no-more z k s a b c = go (constant a) (constant b) refl
-  where
-    go : (o p : Option Bool) → constant b ≡ p → length (sorted z s a b (k a b) o p .0) ≤ length s
-    go (some true) p e = le-refl _
-    go (some false) p e = le-refl _
-    go none (some true) e = le-refl _
-    go none (some false) e = le-refl _
-    go none none e = absurd (let i : _≡_ {A = ℕ} 0 1 = cc (c .is) in omega arith)
+no-more : (z : Bool) (s : List Step) (a b : Ref) → Const b → length (join z s a b .0) ≤ length s
+no-more z s a b c = joins s a b (λ o. length (o .0) ≤ length s) z (λ e. le-refl _) (λ e. le-refl _) (λ e. le-refl _) (λ e. le-refl _) (λ e f. absurd (some-none (c .bool) (c .is) f))
 
-joined-const : (z : Bool) (k : Ref → Ref → Step) (s : List Step) (a b : Ref) → Const a → Const b → Const (joined z k s a b .1)
-joined-const z k s a b ca cb = go (constant a) (constant b) refl
-  where
-    pick : (x : Bool) (a b : Ref) → Const a → Const b → Const (cond x a b)
-    pick true a b ca cb = ca
-    pick false a b ca cb = cb
-
-    go : (o p : Option Bool) → constant a ≡ o → Const (sorted z s a b (k a b) o p .1)
-    go (some true) p e = pick z a b ca cb
-    go (some false) p e = pick z b a cb ca
-    go none (some true) e = pick z b a cb ca
-    go none (some false) e = pick z a b ca cb
-    go none none e = absurd (let i : _≡_ {A = ℕ} 0 1 = cc (ca .is) in omega arith)
+join-const : (z : Bool) (s : List Step) (a b : Ref) → Const a → Const b → Const (join z s a b .1)
+join-const z s a b ca cb = joins s a b (λ o. Const (o .1)) z (λ e. ca) (λ e. cb) (λ e. cb) (λ e. ca) (λ e f. absurd (some-none (ca .bool) (ca .is) e))
 
 low-const : Const Ref.low
 low-const = record { bool = false; is = refl }
@@ -86,8 +67,8 @@ record Cold (n : ℕ) (f : ℕ → Ref) : Type 0 where
 neg-const : (s : List Step) (a : Ref) → Const a → (length (negated s a .0) ≤ length s) × Const (negated s a .1)
 neg-const s Ref.low c = (le-refl _, high-const)
 neg-const s Ref.high c = (le-refl _, low-const)
-neg-const s (Ref.var x) c = absurd (let i : _≡_ {A = ℕ} 0 1 = cc (c .is) in omega arith)
-neg-const s (Ref.step i) c = absurd (let i : _≡_ {A = ℕ} 0 1 = cc (c .is) in omega arith)
+neg-const s (Ref.var x) c = absurd (some-none (c .bool) (c .is) refl)
+neg-const s (Ref.step i) c = absurd (some-none (c .bool) (c .is) refl)
 
 literal-const : (b : Bool) → Const (literal formula b)
 literal-const true = high-const
@@ -118,10 +99,10 @@ module _ (lab txt : Bytes → Bool) where
   value-size (Entry.label w) s v c d = omega arith
   value-size (Entry.text w) s v c d = omega arith
   value-size (Entry.child q) s v c d = omega arith
-  value-size (Entry.at p q) s v c d = one-more false Step.and s (v p) (v q)
+  value-size (Entry.at p q) s v c d = one-more false s (v p) (v q)
   value-size (Entry.lower q) s v c d = omega arith
-  value-size (Entry.or p q) s v c d = one-more true Step.or s (v p) (v q)
-  value-size (Entry.and p q) s v c d = one-more false Step.and s (v p) (v q)
+  value-size (Entry.or p q) s v c d = one-more true s (v p) (v q)
+  value-size (Entry.and p q) s v c d = one-more false s (v p) (v q)
   value-size (Entry.not q) s v c d = neg-one-more s (v q)
 
   value-cold : (i n : ℕ) → i ≤ n → (e : Entry Bytes) → Points i e → (s : List Step) (v c d : ℕ → Ref) → Cold i v → Cold n c → Cold n d
@@ -130,10 +111,10 @@ module _ (lab txt : Bytes → Bool) where
   value-cold i n k (Entry.label w) p s v c d hv hc hd = (le-refl _, literal-const (lab w))
   value-cold i n k (Entry.text w) p s v c d hv hc hd = (le-refl _, literal-const (txt w))
   value-cold i n k (Entry.child q) p s v c d hv hc hd = (le-refl _, hc .each q (omega arith))
-  value-cold i n k (Entry.at a b) p s v c d hv hc hd = (no-more false Step.and s (v a) (v b) (hv .each b (p .1)), joined-const false Step.and s (v a) (v b) (hv .each a (p .0)) (hv .each b (p .1)))
+  value-cold i n k (Entry.at a b) p s v c d hv hc hd = (no-more false s (v a) (v b) (hv .each b (p .1)), join-const false s (v a) (v b) (hv .each a (p .0)) (hv .each b (p .1)))
   value-cold i n k (Entry.lower q) p s v c d hv hc hd = (le-refl _, hd .each q (omega arith))
-  value-cold i n k (Entry.or a b) p s v c d hv hc hd = (no-more true Step.or s (v a) (v b) (hv .each b (p .1)), joined-const true Step.or s (v a) (v b) (hv .each a (p .0)) (hv .each b (p .1)))
-  value-cold i n k (Entry.and a b) p s v c d hv hc hd = (no-more false Step.and s (v a) (v b) (hv .each b (p .1)), joined-const false Step.and s (v a) (v b) (hv .each a (p .0)) (hv .each b (p .1)))
+  value-cold i n k (Entry.or a b) p s v c d hv hc hd = (no-more true s (v a) (v b) (hv .each b (p .1)), join-const true s (v a) (v b) (hv .each a (p .0)) (hv .each b (p .1)))
+  value-cold i n k (Entry.and a b) p s v c d hv hc hd = (no-more false s (v a) (v b) (hv .each b (p .1)), join-const false s (v a) (v b) (hv .each a (p .0)) (hv .each b (p .1)))
   value-cold i n k (Entry.not q) p s v c d hv hc hd = neg-const s (v q) (hv .each q p)
 
   visit-size : (c : ℕ → Ref) (l : List (Entry Bytes)) (i : ℕ) (s : List Step) (v d : ℕ → Ref) → length (visit formula lab txt c l i s v d .st) ≤ length s + 2 * length l
@@ -141,19 +122,19 @@ module _ (lab txt : Bytes → Bool) where
   visit-size c [] i s v d = omega arith
   visit-size c (e ∷ l) i s v d =
       let a = valueOf formula lab txt e s v c d in
-      let b = joined true Step.or (a .0) (a .1) (d i) in
-      omega (arith, visit-size c l (suc i) (b .0) (upd v i (a .1)) (upd d i (b .1)), one-more true Step.or (a .0) (a .1) (d i), value-size e s v c d)
+      let b = join true (a .0) (a .1) (d i) in
+      omega (arith, visit-size c l (suc i) (b .0) (upd v i (a .1)) (upd d i (b .1)), one-more true (a .0) (a .1) (d i), value-size e s v c d)
 
   visit-cold : (n i : ℕ) (l : List (Entry Bytes)) → length l + i ≡ n → Earlier i l → (c : ℕ → Ref) (s : List Step) (v d : ℕ → Ref) → Cold n c → Cold i v → Cold n d → ColdOut n s (visit formula lab txt c l i s v d)
   unfolding visit
   visit-cold n i [] k w c s v d hc hv hd = record { size = le-refl _; v = record { each = λ e b. hv .each e (omega arith) }; d = hd }
   visit-cold n i (e ∷ l) k w c s v d hc hv hd =
       let a = valueOf formula lab txt e s v c d in
-      let b = joined true Step.or (a .0) (a .1) (d i) in
+      let b = join true (a .0) (a .1) (d i) in
       let x = value-cold i n (omega arith) e (w .0) s v c d hv hc hd in
       let di = hd .each i (omega arith) in
-      let y = no-more true Step.or (a .0) (a .1) (d i) di in
-      let r = visit-cold n (suc i) l (omega arith) (w .1) c (b .0) (upd v i (a .1)) (upd d i (b .1)) hc (cold-snoc i v (a .1) hv (x .1)) (cold-kept n i d (b .1) hd (joined-const true Step.or (a .0) (a .1) (d i) (x .1) di)) in
+      let y = no-more true (a .0) (a .1) (d i) di in
+      let r = visit-cold n (suc i) l (omega arith) (w .1) c (b .0) (upd v i (a .1)) (upd d i (b .1)) hc (cold-snoc i v (a .1) hv (x .1)) (cold-kept n i d (b .1) hd (join-const true (a .0) (a .1) (d i) (x .1) di)) in
       record { size = omega (arith, r .size, x .0, y); v = r .v; d = r .d }
 
 -- TO THE PARENT
@@ -161,28 +142,28 @@ push-size : (v d : ℕ → Ref) (m i : ℕ) (s : List Step) (pc pd : ℕ → Ref
 unfolding push
 push-size v d zero i s pc pd = omega arith
 push-size v d (suc m) i s pc pd =
-    let a = joined true Step.or s (pc i) (v i) in
-    let b = joined true Step.or (a .0) (pd i) (d i) in
-    omega (arith, push-size v d m (suc i) (b .0) (upd pc i (a .1)) (upd pd i (b .1)), one-more true Step.or (a .0) (pd i) (d i), one-more true Step.or s (pc i) (v i))
+    let a = join true s (pc i) (v i) in
+    let b = join true (a .0) (pd i) (d i) in
+    omega (arith, push-size v d m (suc i) (b .0) (upd pc i (a .1)) (upd pd i (b .1)), one-more true (a .0) (pd i) (d i), one-more true s (pc i) (v i))
 
 -- constants are pushed for nothing
 push-free : (v d : ℕ → Ref) (n m i : ℕ) → m + i ≡ n → (s : List Step) (pc pd : ℕ → Ref) → Cold n v → Cold n d → length (push formula v d m i s pc pd .st) ≤ length s
 unfolding push
 push-free v d n zero i k s pc pd hv hd = le-refl _
 push-free v d n (suc m) i k s pc pd hv hd =
-    let a = joined true Step.or s (pc i) (v i) in
-    let b = joined true Step.or (a .0) (pd i) (d i) in
-    omega (arith, push-free v d n m (suc i) (omega arith) (b .0) (upd pc i (a .1)) (upd pd i (b .1)) hv hd, no-more true Step.or (a .0) (pd i) (d i) (hd .each i (omega arith)), no-more true Step.or s (pc i) (v i) (hv .each i (omega arith)))
+    let a = join true s (pc i) (v i) in
+    let b = join true (a .0) (pd i) (d i) in
+    omega (arith, push-free v d n m (suc i) (omega arith) (b .0) (upd pc i (a .1)) (upd pd i (b .1)) hv hd, no-more true (a .0) (pd i) (d i) (hd .each i (omega arith)), no-more true s (pc i) (v i) (hv .each i (omega arith)))
 
 push-cold : (v d : ℕ → Ref) (n m i : ℕ) → m + i ≡ n → (s : List Step) (pc pd : ℕ → Ref) → Cold n v → Cold n d → Cold n pc → Cold n pd → Cold n (push formula v d m i s pc pd .c) × Cold n (push formula v d m i s pc pd .d)
 unfolding push
 push-cold v d n zero i k s pc pd hv hd hc he = (hc, he)
 push-cold v d n (suc m) i k s pc pd hv hd hc he =
-    let a = joined true Step.or s (pc i) (v i) in
-    let b = joined true Step.or (a .0) (pd i) (d i) in
+    let a = join true s (pc i) (v i) in
+    let b = join true (a .0) (pd i) (d i) in
     push-cold v d n m (suc i) (omega arith) (b .0) (upd pc i (a .1)) (upd pd i (b .1)) hv hd
-    (cold-kept n i pc (a .1) hc (joined-const true Step.or s (pc i) (v i) (hc .each i (omega arith)) (hv .each i (omega arith))))
-    (cold-kept n i pd (b .1) he (joined-const true Step.or (a .0) (pd i) (d i) (he .each i (omega arith)) (hd .each i (omega arith))))
+    (cold-kept n i pc (a .1) hc (join-const true s (pc i) (v i) (hc .each i (omega arith)) (hv .each i (omega arith))))
+    (cold-kept n i pd (b .1) he (join-const true (a .0) (pd i) (d i) (he .each i (omega arith)) (hd .each i (omega arith))))
 
 -- SUMS over the rows k to k + m - 1
 sum : ℕ → ℕ → (ℕ → ℕ) → ℕ
@@ -207,6 +188,18 @@ count-stand-ins R (suc k) = go (R .stands k) (count-stand-ins R k)
     go true e = rw length-snoc (omega arith)
     go false e = omega arith
 
+-- A TEST OF OPEN ROWS: real, and with a stand-in below
+module _ (R : Rows) (up : Upright R) where
+  abbrev open-test : ℕ → Bool
+  open-test k = not (R .stands k) && deep (alone-finite R up) (R .stands) k
+
+  open-told : (k : ℕ) → Says (Open R k) (open-test k)
+  open-told k = says-and (real (R .stands k)) (deep-says (alone-finite R up) (R .stands) (λ s. R .stands s ≡ true) (λ s. says-self (R .stands s)) k)
+    where
+      real : (b : Bool) → Says (b ≡ false) (not b)
+      real true = nay true≢false
+      real false = aye refl
+
 -- ALL ROWS
 module _ (R : Rows) (up : Upright R) (es : List (Entry Bytes)) (w : Earlier 0 es) (vV vD : ℕ → ℕ → Ref) (isOpen : ℕ → Bool) (tells : (k : ℕ) → k ≤ R .last → Says (Open R k) (isOpen k)) where
   abbrev fin : Finite (alone R)
@@ -219,12 +212,8 @@ module _ (R : Rows) (up : Upright R) (es : List (Entry Bytes)) (w : Earlier 0 es
   abbrev warm : ℕ → Bool
   warm = deep fin (R .stands)
 
-  open-is : (k : ℕ) → k ≤ R .last → isOpen k ≡ not (R .stands k) && warm k
-  open-is k h = says-same (tells k h) (says-and (real (R .stands k)) (deep-says fin (R .stands) (λ s. R .stands s ≡ true) (λ s. says-self (R .stands s)) k))
-    where
-      real : (b : Bool) → Says (b ≡ false) (not b)
-      real true = nay true≢false
-      real false = aye refl
+  open-is : (k : ℕ) → k ≤ R .last → isOpen k ≡ open-test R up k
+  open-is k h = says-same (tells k h) (open-told R up k)
 
   -- a row that is not warm is real, and has no warm child
   cold-row : (k : ℕ) → warm k ≡ false → (R .stands k ≡ false) × (Lists.some warm (fin .kids k) ≡ false)
@@ -360,6 +349,36 @@ module _ (R : Rows) (up : Upright R) (es : List (Entry Bytes)) (w : Earlier 0 es
       bound : sum (R .last + 0) 1 weight + weight 0 ≡ 4 * count isOpen (suc (R .last)) + 2 * length (standIns R (suc (R .last)))
       bound = omega (arith, subst (λ z. sum (R .last + 0) 1 weight + 4 * count isOpen 1 + 2 * count (R .stands) 1 ≡ 4 * count isOpen z + 2 * count (R .stands) z) size (counts isOpen (R .stands) (R .last + 0) 1), count-stand-ins R (suc (R .last)))
 
-pub step-bound : StepBound
+-- whatever test tells the open rows
+pub bounded : (number part : ℕ) (F : Fragment) → Sound part F → (es : List (Entry Bytes)) → Earlier 0 es → (isOpen : ℕ → Bool)
+    → ((k : ℕ) → k < rowCount F → Says (Open (rowsOf F) k) (isOpen k)) → length (laidDown (rowsOf F) es number part .steps) ≤ stepBound (length es) (rowsOf F) isOpen
 unfolding laidDown
-step-bound number F s es w isOpen tells = run-steps (rowsOf F) (sound-upright number F s) es w (varV (rowsOf F) es) (varD (rowsOf F) es) isOpen (λ k h. tells k (row-inside number F s k h))
+bounded number part F s es w isOpen tells = run-steps (rowsOf F) (sound-upright part F s) es w (varV (rowsOf F) es) (varD (rowsOf F) es) isOpen (λ k h. tells k (row-inside part F s k h))
+
+-- and there is one
+pub step-bound : StepBound
+step-bound number part F s es w =
+    let up = sound-upright part F s in
+    (open-test (rowsOf F) up, λ k h. open-told (rowsOf F) up k, bounded number part F s es w (open-test (rowsOf F) up) (λ k h. open-told (rowsOf F) up k))
+
+-- WITHOUT STAND-INS there is no step
+module _ (part : ℕ) (F : Fragment) (s : Sound part F) (none : NoStandIn F) where
+  no-ins : (k : ℕ) → k ≤ rowCount F → standIns (rowsOf F) k ≡ []
+  unfolding standIns
+  no-ins zero h = refl
+  no-ins (suc k) h = ap (λ b. cond b (standIns (rowsOf F) k ++ (rowsOf F .goes k ∷ [])) (standIns (rowsOf F) k)) (none k h) ∙ no-ins k (omega arith)
+
+  inside : {k v : ℕ} → k ≤ rowsOf F .last → Below (alone (rowsOf F)) k v → v ≤ rowsOf F .last
+  inside h here = h
+  inside h (down c b) = inside (c .inside) b
+
+  no-open : (k : ℕ) → k < rowCount F → Says (Open (rowsOf F) k) false
+  no-open k h = nay (λ o. true≢false (sym (o .1 .2) ∙ none (o .1 .0) (row-inside part F s (o .1 .0) (inside (omega arith) (o .1 .1)))))
+
+  no-count : (k : ℕ) → count (λ i. false) k ≡ 0
+  unfolding count
+  no-count zero = refl
+  no-count (suc k) = rw (no-count k)
+
+  pub no-steps : (es : List (Entry Bytes)) → Earlier 0 es → (number : ℕ) → length (laidDown (rowsOf F) es number part .steps) ≡ 0
+  no-steps es w number = omega (arith, rw (no-count, no-ins (suc (rowsOf F .last)) (omega (arith, s .some-row))) at (bounded number part F s es w (λ i. false) no-open))

@@ -1,17 +1,50 @@
 -- STEP LISTS keep the laws, under every assignment of the variables.
-use Prim.Native.Nat.{ℕ, zero, suc, _+_, _≤_, _<_}
+use Prim.Native.Nat.{ℕ, _+_, _≤_, _<_}
 use native.Mathlib.Omega.{arith}
 use native.Mathlib.Nat.{add-zero, zero-add}
 use mathlib.Core.Path.{_≡_, refl, sym, ap, _∙_, subst}
-use mathlib.Core.Bool.{Bool, true, false, not, _&&_, _||_, cond}
+use mathlib.Core.Bool.{Bool, true, false, not, _&&_, _||_, true≢false, false≢true}
 use mathlib.Core.Option.{Option, none, some}
 use mathlib.Core.List.{List, [], _∷_, _++_, append-assoc, append-nil}
 use lib.ListN.{length, getD, length-append, List·getD-append}
 use lib.Seq.{getD-at}
 use Rattle.meaning.specs.Algebra.{bool}
-use Rattle.meaning.specs.Formula.{Ref, Step, added, constant, sorted, joined, negated, formula, refValue, stepValue, stepValues, value}
+use Rattle.meaning.specs.Formula.{Ref, Step, added, constant, andOf, orOf, negated, formula, refValue, stepValue, stepValues, value}
 use Rattle.meaning.proofs.Entry.{length-snoc}
 use Rattle.meaning.proofs.Algebra.{Reading, Laws}
+
+-- BOTH OPERATIONS AT ONCE: or where z is true, and where it is false; z is the constant that decides
+abbrev pub stepOf : Bool → Ref → Ref → Step
+stepOf true a b = Step.or a b
+stepOf false a b = Step.and a b
+
+abbrev pub joinOf : Bool → List Step → Ref → Ref → Option Bool → Option Bool → List Step × Ref
+joinOf true s a b o p = orOf s a b o p
+joinOf false s a b o p = andOf s a b o p
+
+abbrev pub join : Bool → List Step → Ref → Ref → List Step × Ref
+join z s a b = joinOf z s a b (constant a) (constant b)
+
+-- what holds of both: the left operand decides or leaves the right, or the right one does, or there is one more step
+module _ (s : List Step) (a b : Ref) (P : List Step × Ref → Type 0) where
+  pub joins : (z : Bool) → (constant a ≡ some z → P (s, a)) → (constant a ≡ some (not z) → P (s, b)) → (constant b ≡ some z → P (s, b)) → (constant b ≡ some (not z) → P (s, a))
+      → (constant a ≡ none → constant b ≡ none → P (added s (stepOf z a b))) → P (join z s a b)
+  joins true d l d′ l′ m = go (constant a) (constant b) refl refl
+    where
+      go : (o p : Option Bool) → constant a ≡ o → constant b ≡ p → P (orOf s a b o p)
+      go (some true) p e f = d e
+      go (some false) p e f = l e
+      go none (some true) e f = d′ f
+      go none (some false) e f = l′ f
+      go none none e f = m e f
+  joins false d l d′ l′ m = go (constant a) (constant b) refl refl
+    where
+      go : (o p : Option Bool) → constant a ≡ o → constant b ≡ p → P (andOf s a b o p)
+      go (some false) p e f = d e
+      go (some true) p e f = l e
+      go none (some false) e f = d′ f
+      go none (some true) e f = l′ f
+      go none none e f = m e f
 
 -- the reference is no step past the list
 abbrev pub Within : ℕ → Ref → Type 0
@@ -33,15 +66,8 @@ extends-trans s s′ s″ x y = record { more = x .more ++ y .more; is = y .is �
 extends-added : (s : List Step) (x : Step) → Extends s (added s x .0)
 extends-added s x = record { more = x ∷ []; is = refl }
 
-extends-joined : (z : Bool) (k : Ref → Ref → Step) (s : List Step) (a b : Ref) → Extends s (joined z k s a b .0)
-extends-joined z k s a b = go (constant a) (constant b)
-  where
-    go : (o p : Option Bool) → Extends s (sorted z s a b (k a b) o p .0)
-    go (some true) p = extends-same s
-    go (some false) p = extends-same s
-    go none (some true) = extends-same s
-    go none (some false) = extends-same s
-    go none none = extends-added s (k a b)
+extends-join : (z : Bool) (s : List Step) (a b : Ref) → Extends s (join z s a b .0)
+extends-join z s a b = joins s a b (λ o. Extends s (o .0)) z (λ e. extends-same s) (λ e. extends-same s) (λ e. extends-same s) (λ e. extends-same s) (λ e f. extends-added s (stepOf z a b))
 
 extends-negated : (s : List Step) (a : Ref) → Extends s (negated s a .0)
 extends-negated s Ref.low = extends-same s
@@ -97,30 +123,49 @@ module _ (α : ℕ → Bool) where
   constant-is s (Ref.var i) b x e v = cc
   constant-is s (Ref.step i) b x e v = cc
 
-  -- `op` with z decided, and the other constant leaving what it meets
-  module _ (z : Bool) (k : Ref → Ref → Step) (op : Bool → Bool → Bool)
-      (k-is : (vs : List Bool) (a b : Ref) → stepValue bool α vs (k a b) ≡ op (refValue bool α vs a) (refValue bool α vs b))
-      (left : (x y : Bool) → op x y ≡ cond x (cond z x y) (cond z y x))
-      (right : (x y : Bool) → op x y ≡ cond y (cond z y x) (cond z x y)) where
-    pick : (c : Bool) (s : List Step) (a b : Ref) (x y : Bool) → Value s a x → Value s b y → Value s (cond c a b) (cond c x y)
-    pick true s a b x y va vb = va
-    pick false s a b x y va vb = vb
+  -- or and and: the truth value z decides, and the other leaves what it meets
+  valueBy : Bool → Bool → Bool → Bool
+  valueBy true x y = x || y
+  valueBy false x y = x && y
 
-    joined-is : (s : List Step) (a b : Ref) (x y : Bool) → Value s a x → Value s b y → Value (joined z k s a b .0) (joined z k s a b .1) (op x y)
-    joined-is s a b x y va vb = go (constant a) (constant b) refl refl
-      where
-        by-left : (c : Bool) → x ≡ c → op x y ≡ cond c (cond z x y) (cond z y x)
-        by-left c e = left x y ∙ ap (λ w. cond w (cond z x y) (cond z y x)) e
+  decides : (z x y : Bool) → x ≡ z → valueBy z x y ≡ x
+  unfolding valueBy
+  decides true true y e = refl
+  decides true false y e = absurd (false≢true e)
+  decides false true y e = absurd (true≢false e)
+  decides false false y e = refl
 
-        by-right : (c : Bool) → y ≡ c → op x y ≡ cond c (cond z y x) (cond z x y)
-        by-right c e = right x y ∙ ap (λ w. cond w (cond z y x) (cond z x y)) e
+  leaves : (z x y : Bool) → x ≡ not z → valueBy z x y ≡ y
+  unfolding valueBy
+  leaves true true y e = absurd (true≢false e)
+  leaves true false y e = refl
+  leaves false true y e = refl
+  leaves false false y e = absurd (false≢true e)
 
-        go : (o p : Option Bool) → constant a ≡ o → constant b ≡ p → Value (sorted z s a b (k a b) o p .0) (sorted z s a b (k a b) o p .1) (op x y)
-        go (some true) p e f = subst (λ w. Value s (cond z a b) w) (sym (by-left true (constant-is s a true x e va))) (pick z s a b x y va vb)
-        go (some false) p e f = subst (λ w. Value s (cond z b a) w) (sym (by-left false (constant-is s a false x e va))) (pick z s b a y x vb va)
-        go none (some true) e f = subst (λ w. Value s (cond z b a) w) (sym (by-right true (constant-is s b true y f vb))) (pick z s b a y x vb va)
-        go none (some false) e f = subst (λ w. Value s (cond z a b) w) (sym (by-right false (constant-is s b false y f vb))) (pick z s a b x y va vb)
-        go none none e f = subst (λ w. Value (added s (k a b) .0) (added s (k a b) .1) w) (k-is (stepValues bool α [] s) a b ∙ ap (λ w. op w (value bool α s b)) (va .is) ∙ ap (λ w. op x w) (vb .is)) (added-is s (k a b))
+  turned : (z x y : Bool) → valueBy z x y ≡ valueBy z y x
+  unfolding valueBy
+  turned true true true = refl
+  turned true true false = refl
+  turned true false true = refl
+  turned true false false = refl
+  turned false true true = refl
+  turned false true false = refl
+  turned false false true = refl
+  turned false false false = refl
+
+  step-value : (z : Bool) (vs : List Bool) (a b : Ref) → stepValue bool α vs (stepOf z a b) ≡ valueBy z (refValue bool α vs a) (refValue bool α vs b)
+  unfolding valueBy
+  step-value true vs a b = refl
+  step-value false vs a b = refl
+
+  join-is : (z : Bool) (s : List Step) (a b : Ref) (x y : Bool) → Value s a x → Value s b y → Value (join z s a b .0) (join z s a b .1) (valueBy z x y)
+  join-is z s a b x y va vb =
+      joins s a b (λ o. Value (o .0) (o .1) (valueBy z x y)) z
+      (λ e. subst (Value s a) (sym (decides z x y (constant-is s a z x e va))) va)
+      (λ e. subst (Value s b) (sym (leaves z x y (constant-is s a (not z) x e va))) vb)
+      (λ e. subst (Value s b) (sym (turned z x y ∙ decides z y x (constant-is s b z y e vb))) vb)
+      (λ e. subst (Value s a) (sym (turned z x y ∙ leaves z y x (constant-is s b (not z) y e vb))) va)
+      (λ e f. subst (Value (added s (stepOf z a b) .0) (added s (stepOf z a b) .1)) (step-value z (stepValues bool α [] s) a b ∙ ap (λ w. valueBy z w (value bool α s b)) (va .is) ∙ ap (valueBy z x) (vb .is)) (added-is s (stepOf z a b)))
 
   low-value : (s : List Step) → Value s Ref.low false
   low-value s = record { within = tt; is = refl }
@@ -138,16 +183,17 @@ module _ (α : ℕ → Bool) where
   reading = record { Later = Extends; Is = Value }
 
   pub formula-laws : Laws formula reading
+  unfolding valueBy
   formula-laws = record {
     same = extends-same;
     trans = extends-trans;
     keep = keeps;
     low-is = low-value;
     high-is = high-value;
-    and-later = extends-joined false Step.and;
-    or-later = extends-joined true Step.or;
+    and-later = extends-join false;
+    or-later = extends-join true;
     neg-later = extends-negated;
-    and-is = joined-is false Step.and _&&_ (λ vs a b. refl) (elim [ true ↦ λ y. refl | false ↦ λ y. refl ]) (elim [ true ↦ elim [ true ↦ refl | false ↦ refl ] | false ↦ elim [ true ↦ refl | false ↦ refl ] ]);
-    or-is = joined-is true Step.or _||_ (λ vs a b. refl) (elim [ true ↦ λ y. refl | false ↦ λ y. refl ]) (elim [ true ↦ elim [ true ↦ refl | false ↦ refl ] | false ↦ elim [ true ↦ refl | false ↦ refl ] ]);
+    and-is = join-is false;
+    or-is = join-is true;
     neg-is = neg-value;
   }

@@ -1,32 +1,26 @@
--- One fragment as a tree of its rows; and, where no row stands for another, its answer.
-use Prim.Native.Nat.{ℕ, zero, suc, _+_, _-_, _*_, _/_, _≤_, _<_}
+-- One fragment as a tree of its rows.
+use Prim.Native.Nat.{ℕ, zero, suc, _-_, _≤_, _<_}
 use native.Mathlib.Omega.{arith}
-use mathlib.Core.Path.{_≡_, refl, sym, ap, _∙_, subst}
-use mathlib.Core.Bool.{Bool, true, false, true≢false}
-use mathlib.Core.Logic.{_⊎_, inl, inr}
-use mathlib.Core.List.{List, List·Memᴰ}
-use lib.ListN.{length}
+use mathlib.Core.Path.{_≡_, refl, sym, ap, _∙_}
+use mathlib.Core.Bool.{Bool, false}
+use mathlib.Core.Logic.{⊎-elim}
 use lib.Dec.{eqb}
-use Rattle.meaning.specs.Says.{Says}
-use Rattle.meaning.specs.Bytes.{Bytes}
-use Rattle.meaning.specs.Entry.{Entry, entries, top, Earlier, EntryHolds}
-use Rattle.meaning.specs.Algebra.{constants, bool}
-use Rattle.meaning.specs.Fragment.{Fragment, num, rowCount, RealRow, StandIn, RowRule, Sound, Rows, rowsOf, ChildRow, alone}
-use Rattle.meaning.specs.Run.{run}
-use Rattle.meaning.specs.Promise.{NoStandIn, OneBox, OneBoxAnswer}
-use Rattle.meaning.proofs.Says.{says-iff}
+use Rattle.meaning.specs.Fragment.{Fragment, num, rowCount, StandIn, RowRule, Sound, Rows, rowsOf, ChildRow, alone}
 use Rattle.meaning.proofs.Tree.{Finite}
-use Rattle.meaning.proofs.Entry.{readers-list, last-entry, mean, mean-says, mean-agrees}
-use Rattle.meaning.proofs.Algebra.{constant-reading, constant-laws}
 use Rattle.meaning.proofs.Numbers.{eqb-true, eqb-is}
 use Rattle.meaning.proofs.Placed.{Placed}
 use Rattle.meaning.proofs.Gather.{gather, gather-some, gather-has, gathered, Gathered}
-use Rattle.meaning.proofs.Run.{run-is}
 
 -- row 0 is real, and parents come first
 pub record Upright (R : Rows) : Type 0 where
   pub real : R .stands 0 ≡ false
   pub parents : (k : ℕ) → 0 < k → k ≤ R .last → R .parent k < k
+
+-- a row of kind 1 keeps the rule of stand-ins
+pub stand-in : (number : ℕ) (F : Fragment) (k : ℕ) → RowRule number F k → num F k 1 ≡ 1 → StandIn number F k
+unfolding RowRule
+stand-in number F zero r e = absurd (omega (arith, r .1 .kind))
+stand-in number F (suc k) r e = ⊎-elim (λ x. absurd (omega (arith, x .kind))) (λ x. x) (r .2)
 
 module _ (number : ℕ) (F : Fragment) (s : Sound number F) where
   pub row-inside : (k : ℕ) → k ≤ rowsOf F .last → k < rowCount F
@@ -73,23 +67,3 @@ module _ (R : Rows) (up : Upright R) where
     text-is = λ k a e w. refl;
     kids-are = λ k a e p. gather-some (kidTest k) (λ c. c) p (R .last) 1;
   }
-
--- ONE BOX
-pub one-box : OneBox
-one-box number F s none es w e h = subst (λ b. Says (EntryHolds (alone R) es e 0) b) (sym is) (mean-says fin es e 0)
-  where
-    R : Rows
-    R = rowsOf F
-
-    fin : Finite (alone R)
-    fin = alone-finite R (sound-upright number F s)
-
-    is : run (constants bool) R es (λ k i. false) (λ k i. false) tt .v e ≡ mean fin es e 0
-    is = run-is (constants bool) constant-reading constant-laws fin R (λ k. k) (alone-placed R (sound-upright number F s)) es w (mean fin es) (mean-agrees fin es w) (λ k i. false) (λ k i. false) tt
-        (λ k a b. absurd (true≢false (sym b ∙ none k (row-inside number F s k a)))) .here e (omega arith) h
-
-pub one-box-answer : OneBoxAnswer
-one-box-answer number F s none q =
-    let l = readers-list q in
-    let i = last-entry (alone (rowsOf F)) q 0 in
-    says-iff (i .1) (i .0) (one-box number F s none (entries q) (l .0) (top q) (omega (arith, l .1)))

@@ -1,40 +1,30 @@
 -- The joined register: its rows are real, each has the parent that 01 means, and each fragment has its place there.
 use Prim.Native.Nat.{ℕ, zero, suc, _+_, _-_, _*_, _≤_, _<_}
 use native.Mathlib.Omega.{arith}
-use native.Mathlib.Decide.{decLt, ℕ-discrete}
+use native.Mathlib.Decide.{decLt}
 use native.Mathlib.Nat.{zero-add, add-zero, suc-add, add-suc}
 use mathlib.Core.Path.{_≡_, refl, sym, ap, ap₂, _∙_, subst}
-use mathlib.Core.Bool.{Bool, true, false, _&&_, cond, true≢false, false≢true}
-use mathlib.Core.Logic.{_⊎_, inl, inr, _↔_, _≢_}
+use mathlib.Core.Bool.{Bool, true, false, _&&_, cond, false≢true}
+use mathlib.Core.Logic.{_≢_}
 use mathlib.Core.List.{List, [], _∷_, List·Memᴰ, List·Memᴰ·head, List·Memᴰ·tail, List·Memᴰ·not-nil}
 use lib.ListN.{length, getD}
 use lib.Dec.{eqb, ltb}
 use Rattle.meaning.specs.Bytes.{Bytes, labelIs, textIs}
-use Rattle.meaning.specs.Fragment.{Fragment, num, rowCount, RealRow, StandIn, RowRule, Sound, Rows, rowsOf}
+use Rattle.meaning.specs.Fragment.{Fragment, num, StandIn, Rows}
 use Rattle.meaning.specs.Reply.{standIns}
-use Rattle.meaning.specs.Register.{parentOf, Layout, numbered, childrenOf, Register, parts, rowsIn, StandsFor, Cut, place, JoinedChild, joined, RealIn, Parent}
+use Rattle.meaning.specs.Register.{parentOf, numbered, childrenOf, Register, parts, rowsIn, StandsFor, Cut, place, JoinedChild, joined, RealIn, Parent}
 use Rattle.meaning.specs.Promise.{ChildIsReal, ParentIs, OneParent, OneStandIn, Children}
 use Rattle.meaning.proofs.Says.{some}
 use Rattle.meaning.proofs.Tree.{Finite}
-use Rattle.meaning.proofs.Numbers.{eqb-true, eqb-false, eqb-is, ltb-true, ltb-is}
+use Rattle.meaning.proofs.Numbers.{eqb-true, eqb-is, ltb-true, ltb-is}
 use Rattle.meaning.proofs.Placed.{ups, Placed}
 use Rattle.meaning.proofs.Gather.{gather, gather-some, gather-has, gathered, Gathered}
-use Rattle.meaning.proofs.Fragment.{Upright, row-inside, sound-upright}
+use Rattle.meaning.proofs.Fragment.{Upright, stand-in, row-inside, sound-upright}
 use Rattle.meaning.proofs.Reply.{Stood, stood, stands-in}
 
 and-both : (a b : Bool) → a && b ≡ true → (a ≡ true) × (b ≡ true)
 and-both true b e = (refl, e)
 and-both false b e = absurd (false≢true e)
-
--- a row that stands for a fragment keeps the rule of stand-ins
-stand-in : (number : ℕ) (F : Fragment) (k : ℕ) → RowRule number F k → rowsOf F .stands k ≡ true → StandIn number F k
-unfolding RowRule
-stand-in number F zero r e = absurd (false≢true (sym (ap (λ z. eqb z 1) (r .1 .kind)) ∙ e))
-stand-in number F (suc k) r e = go (r .2)
-  where
-    go : RealRow F (suc k) ⊎ StandIn number F (suc k) → StandIn number F (suc k)
-    go (inl x) = absurd (false≢true (sym (ap (λ z. eqb z 1) (x .kind)) ∙ e))
-    go (inr x) = x
 
 module _ (G : Register) where
   pub place-real : (f k : ℕ) → rowsIn G f .stands k ≡ false → place G f k ≡ (f, k)
@@ -137,7 +127,7 @@ module _ (G : Register) where
         F = G .fragment f
 
         rule : StandIn f F k′
-        rule = stand-in f F k′ (c .sound f h .each k′ (row-inside f F (c .sound f h) k′ (s′ .inside))) (s′ .stands)
+        rule = stand-in f F k′ (c .sound f h .each k′ (row-inside f F (c .sound f h) k′ (s′ .inside))) (eqb-is (num F k′ 1) 1 (s′ .stands))
 
     one : (f k f′ k′ g : ℕ) → f < parts G → f′ < parts G → StandsFor G f k g → StandsFor G f′ k′ g → (f ≡ f′) × (k ≡ k′)
     one f k f′ k′ g h h′ s s′ = (same, go (decLt k k′) (decLt k′ k))

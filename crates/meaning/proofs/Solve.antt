@@ -4,14 +4,12 @@ use native.Mathlib.Omega.{arith}
 use native.Mathlib.Decide.{ℕ-discrete}
 use mathlib.Core.Path.{_≡_, refl, sym, ap, _∙_, subst}
 use mathlib.Core.Bool.{Bool, true, false, _&&_, cond}
-use mathlib.Core.Option.{Option, none, some}
-use mathlib.Core.List.{List, [], _∷_, List·Memᴰ}
+use mathlib.Core.Option.{Option, some}
+use mathlib.Core.List.{List, [], _∷_}
 use lib.ListN.{length, getD}
-use Rattle.meaning.specs.Says.{Says}
 use Rattle.meaning.specs.Algebra.{Truth, bool}
-use Rattle.meaning.specs.Run.{upd}
 use Rattle.meaning.specs.Reply.{Reply}
-use Rattle.meaning.specs.Solve.{Values, assign, hereOf, lowerOf, solved, solve, blank, Outcome, waiting, said, isHeard, allHeard, outcome}
+use Rattle.meaning.specs.Solve.{Values, assign, hereOf, lowerOf, solved, solve, noValues, waiting, said, isHeard, allHeard, outcome}
 use Rattle.meaning.specs.Lawful.{Right, Lawful}
 use Rattle.meaning.specs.Promise.{Waits, Solves}
 use Rattle.meaning.proofs.Numbers.{ltb-true, ltb-false, upd-same, upd-other}
@@ -60,7 +58,7 @@ one-unheard heard (suc k) f h e = go (ℕ-discrete f k) (λ x. one-unheard heard
 
 pub waits : Waits
 unfolding outcome
-waits n parts heard f h e = ap (λ b. cond b (said (solve bool n heard parts (blank bool n) .v 0 (n - 1))) waiting) (one-unheard heard parts f h (ap isHeard e))
+waits n parts heard f h e = ap (λ b. cond b (said (solve bool n heard parts (noValues bool n) .v 0 (n - 1))) waiting) (one-unheard heard parts f h (ap isHeard e))
 
 -- LAWFUL REPLIES, ALL HEARD
 module _ (Here Lower : ℕ → ℕ → Type 0) (n parts : ℕ) (heard : ℕ → Option Reply) (all : (f : ℕ) → f < parts → (r : Reply) × (heard f ≡ some r) × Lawful Here Lower n parts f r) where
@@ -89,14 +87,14 @@ module _ (Here Lower : ℕ → ℕ → Type 0) (n parts : ℕ) (heard : ℕ → 
   solve-right zero b S h f y = h f (omega arith) y
   solve-right (suc k) b S h f y = solve-right k (omega arith) (solved bool n (heard k) k S) (λ g x z. solved-right k b S h g x z) f y
 
-  pub all-right : (f : ℕ) → f < parts → Right Here Lower n f (solve bool n heard parts (blank bool n) .v f) (solve bool n heard parts (blank bool n) .d f)
+  pub all-right : (f : ℕ) → f < parts → Right Here Lower n f (solve bool n heard parts (noValues bool n) .v f) (solve bool n heard parts (noValues bool n) .d f)
   unfolding RightIn
-  all-right = solve-right parts (omega arith) (blank bool n) (λ f x y. absurd (omega arith))
+  all-right = solve-right parts (omega arith) (noValues bool n) (λ f x y. absurd (omega arith))
 
 pub solves : Solves
 unfolding outcome
 solves Here Lower n parts a b heard all = (
-  solve bool n heard parts (blank bool n) .v 0 (n - 1),
-  ap (λ b. cond b (said (solve bool n heard parts (blank bool n) .v 0 (n - 1))) waiting) (all-heard heard parts (λ f h. ap isHeard (all f h .1))),
+  solve bool n heard parts (noValues bool n) .v 0 (n - 1),
+  ap (λ b. cond b (said (solve bool n heard parts (noValues bool n) .v 0 (n - 1))) waiting) (all-heard heard parts (λ f h. ap isHeard (all f h .1))),
   all-right Here Lower n parts heard all 0 b (n - 1) (omega arith) .0,
 )

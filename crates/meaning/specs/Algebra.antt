@@ -21,7 +21,3 @@ pub record Truth : Type 1 where
 
 abbrev pub bool : Truth
 bool = record { X = Bool; no = false; yes = true; and = _&&_; or = _||_; neg = not }
-
--- CONSTANTS: truth values are references that need no store
-abbrev pub constants : Truth → Algebra
-constants B = record { St = Unit {0}; Ref = B .X; low = B .no; high = B .yes; and = λ s a b. (s, B .and a b); or = λ s a b. (s, B .or a b); neg = λ s a. (s, B .neg a) }

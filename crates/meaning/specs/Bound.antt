@@ -1,5 +1,5 @@
 -- The step bound's two counts (01, "A depot's formula"): open rows and stand-ins.
-use Prim.Native.Nat.{ℕ, zero, suc, _+_, _*_, _≤_}
+use Prim.Native.Nat.{ℕ, zero, suc, _+_, _*_}
 use mathlib.Core.Path.{_≡_}
 use mathlib.Core.Bool.{Bool, true, false, cond}
 use lib.ListN.{length}

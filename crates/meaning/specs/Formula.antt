@@ -1,6 +1,6 @@
 -- STEP LISTS (01, "A depot's formula"): a reference is false, true, a variable or a step; joining with a constant makes no step.
 use Prim.Native.Nat.{ℕ}
-use mathlib.Core.Bool.{Bool, true, false, cond}
+use mathlib.Core.Bool.{Bool, true, false}
 use mathlib.Core.Option.{Option, none, some}
 use mathlib.Core.List.{List, [], _∷_, _++_}
 use lib.ListN.{length, getD}
@@ -24,16 +24,21 @@ constant high = some true
 constant (var x) = none
 constant (step i) = none
 
--- a joined with b: a constant `z` decides, the other constant leaves what it is joined with, and no constant makes a step
-abbrev pub sorted : Bool → List Step → Ref → Ref → Step → Option Bool → Option Bool → List Step × Ref
-sorted z s a b x (some true) o = (s, cond z a b)
-sorted z s a b x (some false) o = (s, cond z b a)
-sorted z s a b x none (some true) = (s, cond z b a)
-sorted z s a b x none (some false) = (s, cond z a b)
-sorted z s a b x none none = added s x
+-- a and b, where the last two are `constant a` and `constant b`: false decides an and, true leaves the other, no constant makes a step
+abbrev pub andOf : List Step → Ref → Ref → Option Bool → Option Bool → List Step × Ref
+andOf s a b (some false) o = (s, a)
+andOf s a b (some true) o = (s, b)
+andOf s a b none (some false) = (s, b)
+andOf s a b none (some true) = (s, a)
+andOf s a b none none = added s (and a b)
 
-abbrev pub joined : Bool → (Ref → Ref → Step) → List Step → Ref → Ref → List Step × Ref
-joined z k s a b = sorted z s a b (k a b) (constant a) (constant b)
+-- true decides an or, false leaves the other, no constant makes a step
+abbrev pub orOf : List Step → Ref → Ref → Option Bool → Option Bool → List Step × Ref
+orOf s a b (some true) o = (s, a)
+orOf s a b (some false) o = (s, b)
+orOf s a b none (some true) = (s, b)
+orOf s a b none (some false) = (s, a)
+orOf s a b none none = added s (or a b)
 
 abbrev pub negated : List Step → Ref → List Step × Ref
 negated s low = (s, high)
@@ -41,9 +46,16 @@ negated s high = (s, low)
 negated s (var x) = added s (not (var x))
 negated s (step i) = added s (not (step i))
 
--- false decides an and, true decides an or
 abbrev pub formula : Algebra
-formula = record { St = List Step; Ref = Ref; low = low; high = high; and = joined false and; or = joined true or; neg = negated }
+formula = record {
+  St = List Step;
+  Ref = Ref;
+  low = low;
+  high = high;
+  and = λ s a b. andOf s a b (constant a) (constant b);
+  or = λ s a b. orOf s a b (constant a) (constant b);
+  neg = negated;
+}
 
 -- THE VALUE of a reference, where `α` gives the variables their values
 module _ (B : Truth) (α : ℕ → B .X) where

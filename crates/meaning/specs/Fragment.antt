@@ -1,13 +1,13 @@
 -- A fragment (01, "The register and its fragments"): 32-bit numbers, six a row, beside a byte pool; its rules; and its rows.
 use Prim.Native.Nat.{ℕ, zero, suc, _+_, _-_, _*_, _/_, _≤_, _<_}
 use mathlib.Core.Path.{_≡_}
-use mathlib.Core.Bool.{Bool}
+use mathlib.Core.Bool.{Bool, false}
 use mathlib.Core.Logic.{_⊎_, _≢_}
 use mathlib.Core.List.{List}
 use lib.ListN.{length, getD}
 use lib.Dec.{eqb}
 use Rattle.meaning.specs.Bytes.{Bytes, word, labelIs, textIs}
-use Rattle.meaning.specs.Tree.{Tree, Below}
+use Rattle.meaning.specs.Tree.{Tree}
 
 pub record Fragment : Type 0 where
   pub rows : List ℕ
@@ -77,3 +77,7 @@ pub record ChildRow (R : Rows) (u v : ℕ) : Type 0 where
 -- ONE FRAGMENT AS A TREE, a stand-in being a row without children
 abbrev pub alone : Rows → Tree
 alone R = record { N = ℕ; Child = ChildRow R; label? = λ w k. labelIs w (R .label k); text? = λ w k. textIs w (R .text k) }
+
+-- no row stands for another fragment
+abbrev pub NoStandIn : Fragment → Type 0
+NoStandIn F = (k : ℕ) → k < rowCount F → rowsOf F .stands k ≡ false

@@ -1,7 +1,7 @@
 -- WHAT IS PROVED OF THESE DEFINITIONS: each promise is a type, and proofs/ has an element of it under its name (`last-entry` of `LastEntry`).
-use Prim.Native.Nat.{ℕ, zero, suc, _-_, _≤_, _<_}
+use Prim.Native.Nat.{ℕ, suc, _-_, _≤_, _<_}
 use mathlib.Core.Path.{_≡_}
-use mathlib.Core.Bool.{Bool, true, false}
+use mathlib.Core.Bool.{Bool}
 use mathlib.Core.Logic.{_↔_, _≢_}
 use mathlib.Core.Option.{Option, none, some}
 use mathlib.Core.List.{List, List·Memᴰ}
@@ -12,11 +12,9 @@ use Rattle.meaning.specs.Tree.{Tree}
 use Rattle.meaning.specs.Question.{Question}
 use Rattle.meaning.specs.Holds.{Holds}
 use Rattle.meaning.specs.Entry.{Entry, entries, top, Earlier, EntryHolds}
-use Rattle.meaning.specs.Algebra.{constants, bool}
-use Rattle.meaning.specs.Fragment.{Fragment, Sound, rowCount, rowsOf, alone}
-use Rattle.meaning.specs.Run.{run}
+use Rattle.meaning.specs.Fragment.{Fragment, Sound, rowCount, rowsOf}
 use Rattle.meaning.specs.Reply.{Reply, standIns, laidDown}
-use Rattle.meaning.specs.Register.{Register, parts, parentOf, childrenOf, rowsIn, StandsFor, Cut, joined, JoinedChild, RealIn, Parent}
+use Rattle.meaning.specs.Register.{Register, parts, childrenOf, rowsIn, StandsFor, Cut, joined, JoinedChild, RealIn, Parent}
 use Rattle.meaning.specs.Solve.{outcome, waiting, said}
 use Rattle.meaning.specs.Lawful.{Lawful, HereIn, LowerIn}
 use Rattle.meaning.specs.Bound.{Open, stepBound}
@@ -27,18 +25,6 @@ ReadersList = (q : Question) → Earlier 0 (entries q) × (length (entries q) �
 
 abbrev pub LastEntry : Type 1
 LastEntry = (t : Tree) (q : Question) (u : t .N) → Holds t q u ↔ EntryHolds t (entries q) (top q) u
-
--- ONE BOX: without stand-ins, V of row 0 says what each entry means at row 0; at the last entry, what the question means
-abbrev pub NoStandIn : Fragment → Type 0
-NoStandIn F = (k : ℕ) → k < rowCount F → rowsOf F .stands k ≡ false
-
-abbrev pub OneBox : Type 0
-OneBox = (number : ℕ) (F : Fragment) → Sound number F → NoStandIn F → (es : List (Entry Bytes)) → Earlier 0 es
-    → (e : ℕ) → e < length es → Says (EntryHolds (alone (rowsOf F)) es e 0) (run (constants bool) (rowsOf F) es (λ k i. false) (λ k i. false) tt .v e)
-
-abbrev pub OneBoxAnswer : Type 0
-OneBoxAnswer = (number : ℕ) (F : Fragment) → Sound number F → NoStandIn F → (q : Question)
-    → Says (Holds (alone (rowsOf F)) q 0) (run (constants bool) (rowsOf F) (entries q) (λ k i. false) (λ k i. false) tt .v (top q))
 
 -- THE JOINED REGISTER: a child is a real row, its parent is the one that 01 means, every real row but the top one has just one;
 -- and a fragment's stand-ins are exactly its children in the layout, each met once
@@ -76,8 +62,8 @@ abbrev pub DeskAnswer : Type 0
 DeskAnswer = (G : Register) → Cut G → (q : Question) (number : ℕ)
     → (b : Bool) × (outcome (length (entries q)) (parts G) (λ f. some (laidDown (rowsIn G f) (entries q) number f)) ≡ said b) × Says (Holds (joined G) q (0, 0)) b
 
--- THE STEP BOUND
+-- THE STEP BOUND, with the test that tells the open rows
 abbrev pub StepBound : Type 0
-StepBound = (number : ℕ) (F : Fragment) → Sound number F → (es : List (Entry Bytes)) → Earlier 0 es
-    → (isOpen : ℕ → Bool) → ((k : ℕ) → k < rowCount F → Says (Open (rowsOf F) k) (isOpen k))
-    → length (laidDown (rowsOf F) es number number .steps) ≤ stepBound (length es) (rowsOf F) isOpen
+StepBound = (number part : ℕ) (F : Fragment) → Sound part F → (es : List (Entry Bytes)) → Earlier 0 es
+    → (isOpen : ℕ → Bool) × ((k : ℕ) → k < rowCount F → Says (Open (rowsOf F) k) (isOpen k))
+    × (length (laidDown (rowsOf F) es number part .steps) ≤ stepBound (length es) (rowsOf F) isOpen)

@@ -38,8 +38,8 @@ module _ (B : Truth) (n : ℕ) where
   solve heard zero S = S
   solve heard (suc k) S = solve heard k (solved (heard k) k S)
 
-  abbrev pub blank : Values (B .X)
-  blank = record { v = λ f e. B .no; d = λ f e. B .no }
+  abbrev pub noValues : Values (B .X)
+  noValues = record { v = λ f e. B .no; d = λ f e. B .no }
 
 pub data Outcome : Type 0 where
   waiting : Outcome
@@ -56,4 +56,4 @@ allHeard heard (suc k) = isHeard (heard k) && allHeard heard k
 
 -- THE DESK'S ANSWER, for n entries and a number of parts: V of fragment 0's last entry, once every fragment is heard
 unfoldable pub outcome : ℕ → ℕ → (ℕ → Option Reply) → Outcome
-outcome n parts heard = cond (allHeard heard parts) (said (solve bool n heard parts (blank bool n) .v 0 (n - 1))) waiting
+outcome n parts heard = cond (allHeard heard parts) (said (solve bool n heard parts (noValues bool n) .v 0 (n - 1))) waiting

@@ -9,10 +9,9 @@ use lib.ListN.{length, getD}
 use Rattle.meaning.specs.Bytes.{Bytes}
 use Rattle.meaning.specs.Tree.{Tree, Below}
 use Rattle.meaning.specs.Term.{Term, Means}
-use Rattle.meaning.specs.Fragment.{Fragment, Sound, Rows, rowCount, rowsOf, ChildRow, alone}
+use Rattle.meaning.specs.Fragment.{Fragment, Sound, Rows, rowCount, rowsOf, ChildRow, alone, NoStandIn}
 use Rattle.meaning.specs.Reply.{standIns}
 use Rattle.meaning.specs.Register.{Register, parts, rowsIn, parentOf, StandsFor, Cut, JoinedChild, joined}
-use Rattle.meaning.specs.Promise.{NoStandIn}
 
 -- a tree that lies in another, with all children, has the same meanings there
 module _ (s t : Tree) (at : s .N → t .N) (forth : (u v : s .N) → s .Child u v → t .Child (at u) (at v))

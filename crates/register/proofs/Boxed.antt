@@ -11,9 +11,8 @@ use mathlib.Core.Bool.{cond}
 use Rattle.meaning.specs.Bytes.{Bytes}
 use Rattle.meaning.specs.Entry.{term}
 use Rattle.meaning.specs.Holds.{Holds}
-use Rattle.meaning.specs.Fragment.{Fragment, Sound, rowCount, rowsOf, alone}
+use Rattle.meaning.specs.Fragment.{Fragment, Sound, rowCount, rowsOf, alone, NoStandIn}
 use Rattle.meaning.specs.Reply.{Reply, laidDown}
-use Rattle.meaning.specs.Promise.{NoStandIn}
 use Rattle.question.specs.declared.List as L
 use Rattle.reader.specs.declared.Answer.{Answer}
 use Rattle.question.specs.Listed.{Keeps, listed}
@@ -24,7 +23,7 @@ use Rattle.reply.specs.Read.{Is}
 use Rattle.reply.proofs.Round.{size-is}
 use Rattle.depot.specs.Answer.{call, laid, bytes, Answered}
 use Rattle.question.proofs.Listed.{keeps-earlier}
-use Rattle.depot.proofs.Laid.{no-steps}
+use Rattle.meaning.proofs.Bound.{no-steps}
 use Rattle.depot.proofs.Promised.{never-eight, laid-well-formed}
 use Rattle.meaning.specs.Refused.{Unless, Granted}
 use Rattle.desk.specs.Calls.{Opens, Accepts, Asks}

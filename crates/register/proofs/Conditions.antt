@@ -14,7 +14,7 @@ use Rattle.meaning.specs.Tree.{Tree}
 use Rattle.meaning.specs.Entry.{Entry, entries, top, EntryHolds}
 use Rattle.meaning.specs.Holds.{Holds}
 use Rattle.meaning.specs.Reply.{Reply}
-use Rattle.meaning.specs.Register.{joined}
+use Rattle.meaning.specs.Register.{rowsIn, joined}
 use Rattle.meaning.proofs.Entry.{readers-list, last-entry}
 use Rattle.meaning.proofs.Solve.{waits}
 use Rattle.question.specs.Listed.{listed}

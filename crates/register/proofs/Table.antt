@@ -26,9 +26,8 @@ use Rattle.reader.specs.Nesting.{nesting}
 use Rattle.reader.specs.Packed.{placedEntries, packed}
 use Rattle.reader.specs.Read.{Written, Read}
 use Rattle.reader.proofs.Outcome.{read-keeps, read-listed}
-use Rattle.question.proofs.Listed.{keeps-earlier}
-use Rattle.depot.proofs.Laid.{no-steps}
-use Rattle.depot.proofs.Promised.{laid-bound}
+use Rattle.question.proofs.Listed.{listed-length, keeps-earlier}
+use Rattle.meaning.proofs.Bound.{bounded, no-steps}
 use Rattle.register.specs.Round.{Round, callOf}
 use Rattle.register.proofs.Laid.{replyOf, Asked, all-replied}
 use Rattle.register.specs.Promise.{Good}
@@ -46,8 +45,9 @@ module _ (text : Bytes) (good : Good text) where
   few : (f : ℕ) → f < 3 → length (replyOf (round text good) f .steps) ≤ 4096
   unfolding count standIns
   few zero h =
-      let b : length (replyOf (round text good) 0 .steps) ≤ round text good .list .count * 12 = laid-bound (callOf (round text good) 0) (record { keeps = keeps; asked = lit< tt; sound = cut .sound 0 (lit< tt) }) isOpen tells in
-      omega (arith, b, keeps .most)
+      let es = listed (round text good .list) text in
+      let b : length (replyOf (round text good) 0 .steps) ≤ length es * 12 = bounded 1 0 (fragment 0) (cut .sound 0 (lit< tt)) es (keeps-earlier (round text good .list) text keeps) isOpen tells in
+      omega (arith, b, listed-length (round text good .list) text, keeps .most)
   few (suc zero) h = omega (arith, no-steps 1 (fragment 1) (cut .sound 1 (lit< tt)) none-1 (listed (round text good .list) text) (keeps-earlier (round text good .list) text keeps) 1)
   few (suc (suc zero)) h = omega (arith, no-steps 2 (fragment 2) (cut .sound 2 (lit< tt)) none-2 (listed (round text good .list) text) (keeps-earlier (round text good .list) text keeps) 1)
   few (suc (suc (suc f))) h = absurd (omega arith)

@@ -11,9 +11,8 @@ use Rattle.meaning.specs.Says.{Says, aye, nay}
 use Rattle.meaning.specs.Bytes.{Bytes, ascii}
 use Rattle.meaning.specs.Tree.{Below}
 use Rattle.meaning.specs.Bound.{Open, stepBound, count}
-use Rattle.meaning.specs.Fragment.{Fragment, Sound, RowRule, RealRow, StandIn, num, rowCount, rowsOf, ChildRow, alone}
+use Rattle.meaning.specs.Fragment.{Fragment, Sound, RowRule, RealRow, StandIn, num, rowCount, rowsOf, ChildRow, alone, NoStandIn}
 use Rattle.meaning.specs.Register.{Register, Layout, parts, rowsIn, parentOf, StandsFor, Cut}
-use Rattle.meaning.specs.Promise.{NoStandIn}
 use Rattle.register.specs.Trial.{pool, fragment, register}
 
 -- a real row whose numbers pass

@@ -13,10 +13,9 @@ use Rattle.meaning.specs.Says.{Says}
 use Rattle.meaning.specs.Bytes.{Bytes}
 use Rattle.meaning.specs.Holds.{Holds}
 use Rattle.meaning.specs.Bound.{Open, stepBound}
-use Rattle.meaning.specs.Fragment.{Fragment, Sound, rowCount, rowsOf, alone}
+use Rattle.meaning.specs.Fragment.{Fragment, Sound, rowCount, rowsOf, alone, NoStandIn}
 use Rattle.meaning.specs.Reply.{Reply}
 use Rattle.meaning.specs.Register.{parts, rowsIn, Cut, joined}
-use Rattle.meaning.specs.Promise.{NoStandIn}
 use Rattle.reader.specs.Nesting.{nesting}
 use Rattle.reader.specs.Packed.{placedEntries}
 use Rattle.reader.specs.Read.{Written, Read}

@@ -8,9 +8,8 @@ use Rattle.meaning.specs.Says.{Says}
 use Rattle.meaning.specs.Bytes.{Bytes, ascii}
 use Rattle.meaning.specs.Holds.{Holds}
 use Rattle.meaning.specs.Bound.{Open, stepBound}
-use Rattle.meaning.specs.Fragment.{Fragment, Sound}
+use Rattle.meaning.specs.Fragment.{Fragment, Sound, NoStandIn}
 use Rattle.meaning.specs.Register.{Register, rowsIn, Cut, joined}
-use Rattle.meaning.specs.Promise.{NoStandIn}
 use Rattle.reader.specs.Packed.{placedEntries, packed}
 use Rattle.depot.specs.Answer.{laid}
 use Rattle.register.specs.Round.{Round, callOf, Replied}

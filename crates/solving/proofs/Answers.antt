@@ -11,7 +11,7 @@ use Rattle.meaning.specs.Bytes.{Bytes}
 use Rattle.meaning.specs.Formula.{Ref, value}
 use Rattle.meaning.specs.Reply.{Reply, tabulated}
 use Rattle.meaning.specs.Run.{upd}
-use Rattle.meaning.specs.Solve.{Values, assign, hereOf, lowerOf, solved, solve, blank}
+use Rattle.meaning.specs.Solve.{Values, assign, hereOf, lowerOf, solved, solve, noValues}
 use Rattle.meaning.proofs.Numbers.{ltb-true, ltb-false, upd-same, upd-other}
 use Rattle.reply.specs.inner.Decode.{entriesOf, decoded}
 use Rattle.reply.specs.inner.Checked.{Checked}
@@ -117,12 +117,12 @@ module _ (q : Question) (used : ℕ) (store : Bytes) (o : Opened q used store) w
 
 -- ---- what is still to be solved gives the answer
 abbrev pub Left : Question → Bytes → ℕ → List ℕ → List ℕ → Type 0
-Left q store f v e = Agree (solve truths (q .entries) (kept q store) f (valuesIn v e)) (solve truths (q .entries) (kept q store) (q .parts) (blank truths (q .entries)))
+Left q store f v e = Agree (solve truths (q .entries) (kept q store) f (valuesIn v e)) (solve truths (q .entries) (kept q store) (q .parts) (noValues truths (q .entries)))
 
 module _ (q : Question) (store : Bytes) (few : q .entries ≤ 32) where
   pub left-start : (n m : ℕ) → Left q store (q .parts) (replicate n 0) (replicate m 0)
   left-start n m =
-      solve-agree (q .entries) few (λ f. decoded 12 (partOf q store f)) (q .parts) (valuesIn (replicate n 0) (replicate m 0)) (blank truths (q .entries))
+      solve-agree (q .entries) few (λ f. decoded 12 (partOf q store f)) (q .parts) (valuesIn (replicate n 0) (replicate m 0)) (noValues truths (q .entries))
       (record { v-same = λ g e l. none-at n (32 * g + e); d-same = λ g e l. none-at m (32 * g + e) })
 
   left-suc : (f : ℕ) (v e v′ e′ : List ℕ) → Left q store (suc f) v e → Agree (valuesIn v′ e′) (solved truths (q .entries) (kept q store f) f (valuesIn v e)) → Left q store f v′ e′

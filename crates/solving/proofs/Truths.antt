@@ -10,7 +10,7 @@ use Rattle.meaning.specs.Algebra.{bool}
 use Rattle.meaning.specs.Formula.{Ref, Step, refValue, stepValue, stepValues, value}
 use Rattle.meaning.specs.Reply.{Reply}
 use Rattle.meaning.specs.Run.{upd}
-use Rattle.meaning.specs.Solve.{Values, assign, hereOf, lowerOf, solved, solve, blank}
+use Rattle.meaning.specs.Solve.{Values, assign, hereOf, lowerOf, solved, solve, noValues}
 use Rattle.solving.specs.inner.Values.{truths}
 
 -- a truth value's number
@@ -105,5 +105,5 @@ module _ (n : ℕ) where
   solve-bit heard zero S T h = h
   solve-bit heard (suc k) S T h = solve-bit heard k (solved bool n (heard k) k S) (solved truths n (heard k) k T) (solved-bit (heard k) k S T h)
 
-  pub solved-same : (heard : ℕ → Option Reply) (k : ℕ) → Same (solve bool n heard k (blank bool n)) (solve truths n heard k (blank truths n))
-  solved-same heard k = solve-bit heard k (blank bool n) (blank truths n) (record { v-same = λ f e. refl; d-same = λ f e. refl })
+  pub solved-same : (heard : ℕ → Option Reply) (k : ℕ) → Same (solve bool n heard k (noValues bool n)) (solve truths n heard k (noValues truths n))
+  solved-same heard k = solve-bit heard k (noValues bool n) (noValues truths n) (record { v-same = λ f e. refl; d-same = λ f e. refl })

@@ -1,24 +1,24 @@
 -- The reply laid down for a sound fragment is well formed, where it has at most 4,096 steps.
-use Prim.Native.Nat.{ℕ, zero, suc, _+_, _-_, _*_, _≤_, _<_}
+use Prim.Native.Nat.{ℕ, zero, suc, _+_, _-_, _*_, _^_, _≤_, _<_}
 use native.Mathlib.Nat.{mul-le-mul-left, mul-suc, mul-comm, le-trans}
 use native.Mathlib.Decide.{ℕ-discrete}
 use native.Mathlib.Omega.{arith}
 use mathlib.Core.Path.{_≡_, refl, sym, subst}
 use mathlib.Core.Bool.{Bool, true, false, cond}
-use mathlib.Core.Option.{Option, none, some}
+use mathlib.Core.Option.{none}
 use mathlib.Core.List.{List, [], _∷_, _++_}
 use lib.ListN.{length, getD, length-append, List·getD-append}
 use lib.Seq.{getD-at}
 use Rattle.meaning.specs.Bytes.{Bytes, labelIs, textIs}
 use Rattle.meaning.specs.Entry.{Entry}
-use Rattle.meaning.specs.Formula.{Ref, Step, added, constant, sorted, joined, negated, formula}
-use Rattle.meaning.specs.Fragment.{Rows, rowCount, rowsOf}
+use Rattle.meaning.specs.Formula.{Ref, Step, added, constant, negated, formula}
+use Rattle.meaning.specs.Fragment.{Fragment, Sound, Rows, rowCount, rowsOf}
 use Rattle.meaning.specs.Reply.{standIns, varV, varD, laidRun, laidDown}
+use Rattle.meaning.proofs.Formula.{stepOf, join, joins}
 use Rattle.meaning.proofs.Reply.{position}
 use Rattle.meaning.specs.Run.{upd, literal, Vectors, Delivered, Tables, valueOf, visit, push, row, deliver, sweep, run}
 use Rattle.meaning.proofs.Numbers.{upd-same, upd-other}
-use Rattle.reply.specs.WellFormed.{vars, Result, Operand, Operands}
-use Rattle.writing.specs.inner.Promise.{LaidFormed}
+use Rattle.reply.specs.WellFormed.{vars, Result, Operand, Operands, WellFormed}
 use Rattle.reply.proofs.Lists.{up-to-suc, tab-length, tab-at}
 use Rattle.writing.proofs.Rows.{few-ins, ins-fit, ins-differ}
 
@@ -60,26 +60,14 @@ module _ (n : ℕ) where
   operand-of m (Ref.var x) e h = h
   operand-of m (Ref.step i) e h = h
 
-  pick : (c : Bool) (s : List Step) (a b : Ref) → Fine s a → Fine s b → Fine s (cond c a b)
-  pick true s a b x y = x
-  pick false s a b x y = y
+  operands-of : (z : Bool) (m : ℕ) (a b : Ref) → Operand n m a → Operand n m b → Operands n m (stepOf z a b)
+  operands-of true m a b x y = (x, y)
+  operands-of false m a b x y = (x, y)
 
-  made-joined : (z : Bool) (k : Ref → Ref → Step) → ((m : ℕ) (a b : Ref) → Operand n m a → Operand n m b → Operands n m (k a b))
-      → (s : List Step) (a b : Ref) → Good s → Fine s a → Fine s b → Made s (joined z k s a b)
-  made-joined z k both s a b g x y = go (constant a) (constant b) refl refl
-    where
-      go : (o p : Option Bool) → constant a ≡ o → constant b ≡ p → Made s (sorted z s a b (k a b) o p)
-      go (some true) p e f = made-none s (cond z a b) g (pick z s a b x y)
-      go (some false) p e f = made-none s (cond z b a) g (pick z s b a y x)
-      go none (some true) e f = made-none s (cond z b a) g (pick z s b a y x)
-      go none (some false) e f = made-none s (cond z a b) g (pick z s a b x y)
-      go none none e f = made-added s (k a b) g (both (length s) a b (operand-of (length s) a e x) (operand-of (length s) b f y))
-
-  made-and : (s : List Step) (a b : Ref) → Good s → Fine s a → Fine s b → Made s (joined false Step.and s a b)
-  made-and = made-joined false Step.and (λ m a b x y. (x, y))
-
-  made-or : (s : List Step) (a b : Ref) → Good s → Fine s a → Fine s b → Made s (joined true Step.or s a b)
-  made-or = made-joined true Step.or (λ m a b x y. (x, y))
+  made-join : (z : Bool) (s : List Step) (a b : Ref) → Good s → Fine s a → Fine s b → Made s (join z s a b)
+  made-join z s a b g x y =
+      joins s a b (Made s) z (λ e. made-none s a g x) (λ e. made-none s b g y) (λ e. made-none s b g y) (λ e. made-none s a g x)
+      (λ e f. made-added s (stepOf z a b) g (operands-of z (length s) a b (operand-of (length s) a e x) (operand-of (length s) b f y)))
 
   made-not : (s : List Step) (a : Ref) → Good s → Fine s a → Made s (negated s a)
   made-not s Ref.low g h = made-none s Ref.high g tt
@@ -110,10 +98,10 @@ module _ (n : ℕ) where
   value-made lab txt (Entry.label w) s v c d g hv hc hd = made-none s _ g (literal-fine s (lab w))
   value-made lab txt (Entry.text w) s v c d g hv hc hd = made-none s _ g (literal-fine s (txt w))
   value-made lab txt (Entry.child q) s v c d g hv hc hd = made-none s (c q) g (hc q)
-  value-made lab txt (Entry.at p q) s v c d g hv hc hd = made-and s (v p) (v q) g (hv p) (hv q)
+  value-made lab txt (Entry.at p q) s v c d g hv hc hd = made-join false s (v p) (v q) g (hv p) (hv q)
   value-made lab txt (Entry.lower q) s v c d g hv hc hd = made-none s (d q) g (hd q)
-  value-made lab txt (Entry.or p q) s v c d g hv hc hd = made-or s (v p) (v q) g (hv p) (hv q)
-  value-made lab txt (Entry.and p q) s v c d g hv hc hd = made-and s (v p) (v q) g (hv p) (hv q)
+  value-made lab txt (Entry.or p q) s v c d g hv hc hd = made-join true s (v p) (v q) g (hv p) (hv q)
+  value-made lab txt (Entry.and p q) s v c d g hv hc hd = made-join false s (v p) (v q) g (hv p) (hv q)
   value-made lab txt (Entry.not q) s v c d g hv hc hd = made-not s (v q) g (hv q)
 
   -- the two vectors made of the steps s, fine up to entry m
@@ -142,8 +130,8 @@ module _ (n : ℕ) where
   visit-whole lab txt c (x ∷ l) i s v d g hc hv hd =
       let a = value-made lab txt x s v c d g hv hc hd in
       let r = valueOf formula lab txt x s v c d in
-      let b = made-or (r .0) (r .1) (d i) (a .good) (a .fine) (fine-more s (r .0) (d i) (a .grows) (hd i)) in
-      let t = joined true Step.or (r .0) (r .1) (d i) in
+      let b = made-join true (r .0) (r .1) (d i) (a .good) (a .fine) (fine-more s (r .0) (d i) (a .grows) (hd i)) in
+      let t = join true (r .0) (r .1) (d i) in
       let st : length s ≤ length (t .0) = le-trans (a .grows) (b .grows) in
       let w = visit-whole lab txt c l (suc i) (t .0) (upd v i (r .1)) (upd d i (t .1)) (b .good) (all-more s (t .0) c st hc)
       (all-upd (t .0) v i (r .1) (all-more s (t .0) v st hv) (fine-more (r .0) (t .0) (r .1) (b .grows) (a .fine)))
@@ -156,10 +144,10 @@ module _ (n : ℕ) where
   push-whole v d zero i s pc pd g h hc hd = record { good = g; c = hc; d = hd; grows = omega arith }
   push-whole v d (suc m) i s pc pd g h hc hd =
       let here = h i (omega arith) (omega arith) in
-      let a = made-or s (pc i) (v i) g (hc i) (here .0) in
-      let r = joined true Step.or s (pc i) (v i) in
-      let b = made-or (r .0) (pd i) (d i) (a .good) (fine-more s (r .0) (pd i) (a .grows) (hd i)) (fine-more s (r .0) (d i) (a .grows) (here .1)) in
-      let t = joined true Step.or (r .0) (pd i) (d i) in
+      let a = made-join true s (pc i) (v i) g (hc i) (here .0) in
+      let r = join true s (pc i) (v i) in
+      let b = made-join true (r .0) (pd i) (d i) (a .good) (fine-more s (r .0) (pd i) (a .grows) (hd i)) (fine-more s (r .0) (d i) (a .grows) (here .1)) in
+      let t = join true (r .0) (pd i) (d i) in
       let st : length s ≤ length (t .0) = le-trans (a .grows) (b .grows) in
       let w = push-whole v d m (suc i) (t .0) (upd pc i (r .1)) (upd pd i (t .1)) (b .good)
       (λ e x y. let f = h e (omega arith) (omega arith) in (fine-more s (t .0) (v e) st (f .0), fine-more s (t .0) (d e) st (f .1)))
@@ -241,7 +229,8 @@ module _ (R : Rows) (es : List (Entry Bytes)) where
       let v = row-vector 0 (sweep formula R es (varV R es) (varD R es) (R .last) (record { st = []; c = λ r e. Ref.low; d = λ r e. Ref.low })) (omega arith) t in
       record { good = v .good; v = v .v; d = v .d; grows = omega arith }
 
-pub laid-formed : LaidFormed
+pub laid-formed : (number f : ℕ) (F : Fragment) → Sound f F → (es : List (Entry Bytes)) → 0 < length es → length es ≤ 32 → 0 < number → number < 2 ^ 32
+    → length (laidDown (rowsOf F) es number f .steps) ≤ 4096 → WellFormed (laidDown (rowsOf F) es number f)
 unfolding laidDown
 laid-formed number f F sound es one few asked fits steps =
     let e : suc (rowCount F - 1) ≡ rowCount F = omega (arith, sound .some-row) in

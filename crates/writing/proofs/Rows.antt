@@ -4,14 +4,15 @@ use native.Mathlib.Omega.{arith}
 use native.Mathlib.Decide.{ℕ-discrete}
 use mathlib.Core.Path.{_≡_, refl, sym, ap, _∙_, subst}
 use mathlib.Core.Bool.{Bool, true, false, cond}
-use mathlib.Core.Logic.{_⊎_, inl, inr, _≢_}
+use mathlib.Core.Logic.{_≢_}
 use mathlib.Core.List.{List, [], _∷_, _++_}
 use lib.ListN.{length, getD, length-append, List·getD-append}
 use lib.Seq.{getD-at}
 use lib.Dec.{eqb}
 use borrow.Author.Tests.{eqb-true}
-use Rattle.meaning.specs.Fragment.{Fragment, num, rowCount, rowsOf, RealRow, StandIn, RowRule, Sound}
+use Rattle.meaning.specs.Fragment.{Fragment, num, rowCount, rowsOf, StandIn, Sound}
 use Rattle.meaning.specs.Reply.{standIns}
+use Rattle.meaning.proofs.Fragment.{stand-in}
 use Rattle.writing.specs.inner.Codes.{bare, rowIns, FrontIn}
 use Rattle.reply.proofs.Lists.{up-to-suc}
 
@@ -56,15 +57,6 @@ unfolding rowIns
 row-ins F h = let e : suc (rowCount F - 1) ≡ rowCount F = omega arith in rw e (same-ins F (rowCount F))
 
 -- ---- a sound fragment
-stand-in : (number : ℕ) (F : Fragment) (k : ℕ) → RowRule number F k → num F k 1 ≡ 1 → StandIn number F k
-unfolding RowRule
-stand-in number F zero h e = absurd (omega (arith, h .1 .kind))
-stand-in number F (suc k) h e = go (h .2)
-  where
-    go : RealRow F (suc k) ⊎ StandIn number F (suc k) → StandIn number F (suc k)
-    go (inl r) = absurd (omega (arith, r .kind))
-    go (inr s) = s
-
 module _ (number : ℕ) (F : Fragment) (sound : Sound number F) where
   -- the row of the stand-in at a position
   record Row (k g : ℕ) : Type 0 where

@@ -11,7 +11,7 @@ use Rattle.meaning.specs.Bytes.{Bytes}
 use Rattle.meaning.specs.Algebra.{Truth}
 use Rattle.meaning.specs.Formula.{Ref, refValue}
 use Rattle.meaning.specs.Reply.{Reply, tabulated}
-use Rattle.meaning.specs.Solve.{Values, assign, solve, blank}
+use Rattle.meaning.specs.Solve.{Values, assign, solve, noValues}
 use Rattle.reply.specs.inner.Decode.{refAt, entriesOf, insOf, inAt, decoded}
 use Rattle.whole.specs.Whole.{Heard, partOf}
 use Rattle.whole.specs.declared.Question.{Question}
@@ -51,4 +51,4 @@ kept q store f = some (decoded 12 (partOf q store f))
 
 -- V of fragment 0's last entry
 unfoldable pub answerOf : Question → Bytes → ℕ
-answerOf q store = solve truths (q .entries) (kept q store) (q .parts) (blank truths (q .entries)) .v 0 (q .entries - 1)
+answerOf q store = solve truths (q .entries) (kept q store) (q .parts) (noValues truths (q .entries)) .v 0 (q .entries - 1)

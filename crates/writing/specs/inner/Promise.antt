@@ -1,5 +1,5 @@
 -- What is proved of writing a reply from a depot's memory.
-use Prim.Native.Nat.{ℕ, _+_, _*_, _^_, _≤_, _<_}
+use Prim.Native.Nat.{ℕ, _+_, _*_, _≤_, _<_}
 use mathlib.Core.Path.{_≡_}
 use mathlib.Core.List.{List}
 use lib.ListN.{length, take, drop, getD}
@@ -8,13 +8,8 @@ use Rattle.meaning.specs.Formula.{Ref}
 use Rattle.meaning.specs.Entry.{Entry}
 use Rattle.meaning.specs.Fragment.{Fragment, Sound, Rows, rowsOf}
 use Rattle.meaning.specs.Reply.{Reply, laidRun, laidDown}
-use Rattle.reply.specs.WellFormed.{Result, WellFormed}
+use Rattle.reply.specs.WellFormed.{Result}
 use Rattle.writing.specs.inner.Codes.{code, numbers, refOf, FormulaIn, replyIn, Written}
-
--- the reply laid down for a sound fragment is well formed, where it has at most 4,096 steps
-abbrev pub LaidFormed : Type 0
-LaidFormed = (number f : ℕ) (F : Fragment) → Sound f F → (es : List (Entry Bytes)) → 0 < length es → length es ≤ 32 → 0 < number → number < 2 ^ 32
-    → length (laidDown (rowsOf F) es number f .steps) ≤ 4096 → WellFormed (laidDown (rowsOf F) es number f)
 
 -- a reference is what its code stands for
 abbrev pub CodeRef : Type 0
