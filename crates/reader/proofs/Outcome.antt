@@ -9,7 +9,7 @@ use mathlib.Core.List.{List, [], _∷_, _++_, append-nil}
 use lib.ListN.{length, drop}
 use lib.Seq.{drop-length}
 use Rattle.meaning.specs.Bytes.{Bytes}
-use Rattle.meaning.specs.Question.{Question, write}
+use Rattle.meaning.specs.Question.{Question, writeQuestion}
 use Rattle.meaning.specs.Term.{normal}
 use Rattle.meaning.specs.Entry.{Entry, flat, entries, Earlier}
 use Rattle.meaning.proofs.Entry.{flat-earlier}
@@ -17,7 +17,7 @@ use Rattle.question.specs.declared.List as L
 use Rattle.reader.specs.declared.State.{State}
 use Rattle.reader.specs.declared.Answer.{Answer}
 use Rattle.reader.specs.Nesting.{nesting}
-use Rattle.reader.specs.Packed.{Place, placeOf, placedEntries, packed, emptyList}
+use Rattle.reader.specs.Packed.{Place, wordPlace, placedEntries, packed, emptyList}
 use Rattle.reader.specs.Read.{Written, refused, Read}
 use Rattle.reader.specs.inner.Reading.{kept, emitted, Form, Ready, Reads, MadeOf, Scanned}
 use Rattle.question.specs.Listed.{Keeps, listed}
@@ -38,8 +38,8 @@ module _ (t : Bytes) (s : State) (a : Reads Form.question t start s) where
   -- a text of the grammar is read to its end
   pub not-written : (s .ok ≡ true → s .at ≡ length t → ⊥) → Written t → ⊥
   not-written n w =
-      let r = a .complete refl (w .tree) [] (sym (append-nil (write (w .tree)) ∙ w .writes)) by-nothing in
-      n (r .0) (r .1 .place ∙ zero-add (length (write (w .tree))) ∙ ap length (w .writes))
+      let r = a .complete refl (w .tree) [] (sym (append-nil (writeQuestion (w .tree)) ∙ w .writes)) by-nothing in
+      n (r .0) (r .1 .place ∙ zero-add (length (writeQuestion (w .tree))) ∙ ap length (w .writes))
 
   -- what was read to its end is of the grammar
   pub written : s .ok ≡ true → s .at ≡ length t → (w : Written t) × (s .most ≡ nesting (w .tree)) × (s .list ≡ kept (placedEntries (w .tree)) emptyList)
@@ -47,7 +47,7 @@ module _ (t : Bytes) (s : State) (a : Reads Form.question t start s) where
   written ok e =
       let r = a .sound ok in
       let m = r .1 .1 in
-      (record { tree = r .1 .0; writes = sym (m .text ∙ ap (λ n. write (r .1 .0) ++ drop n t) e ∙ ap (λ x. write (r .1 .0) ++ x) (drop-length t) ∙ append-nil (write (r .1 .0))) }, m .most ∙ reach-all (r .1 .0), m .list)
+      (record { tree = r .1 .0; writes = sym (m .text ∙ ap (λ n. writeQuestion (r .1 .0) ++ drop n t) e ∙ ap (λ x. writeQuestion (r .1 .0) ++ x) (drop-length t) ∙ append-nil (writeQuestion (r .1 .0))) }, m .most ∙ reach-all (r .1 .0), m .list)
 
   pub scan-deep : 1 ≤ length t → length t ≤ 255 → s .ok ≡ true → s .at ≡ length t → 12 < s .most → Scanned t (refused 3)
   scan-deep h k ok e d = let w = written ok e in Scanned.too-deep h k (w .0) (subst (λ n. 12 < n) (w .1) d)
@@ -69,7 +69,7 @@ pub few-enough : {t : Bytes} {r : Answer} → Scanned t r → r .list .count ≤
 few-enough (Scanned.wrong-length e) h = Read.wrong-length e
 few-enough (Scanned.not-grammar a b n) h = Read.not-grammar a b n
 few-enough (Scanned.too-deep a b w d) h = Read.too-deep a b w d
-few-enough {t} (Scanned.read a b w d) h = subst (λ l. Read t (record { refusal = 0; list = l })) (sym (kept-packed es few (all-small 0 es (omega (arith, few)) (flat-earlier (normal placeOf 0 (w .tree)) 0) (words-small t (w .tree) b (w .writes))))) (Read.list a b w d few)
+few-enough {t} (Scanned.read a b w d) h = subst (λ l. Read t (record { refusal = 0; list = l })) (sym (kept-packed es few (all-small 0 es (omega (arith, few)) (flat-earlier (normal wordPlace 0 (w .tree)) 0) (words-small t (w .tree) b (w .writes))))) (Read.list a b w d few)
   where
     es : List (Entry Place)
     es = placedEntries (w .tree)

@@ -31,7 +31,7 @@ few-read g {t} {s} {m} y a = few-goes {s = s} y (small g) (a .goes)
     small : (g : Form) → slack g ≤ 1
     small Form.question = omega arith
     small Form.conj = omega arith
-    small Form.part = omega arith
+    small Form.unit = omega arith
     small Form.path = omega arith
     small Form.steps = omega arith
     small Form.rest = omega arith

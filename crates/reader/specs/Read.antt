@@ -4,7 +4,7 @@ use mathlib.Core.Path.{_≡_}
 use mathlib.Core.Logic.{_⊎_}
 use lib.ListN.{length}
 use Rattle.meaning.specs.Bytes.{Bytes}
-use Rattle.meaning.specs.Question.{Question, write}
+use Rattle.meaning.specs.Question.{Question, writeQuestion}
 use Rattle.reader.specs.declared.Answer.{Answer}
 use Rattle.reader.specs.Nesting.{nesting}
 use Rattle.reader.specs.Packed.{placedEntries, packed, emptyList}
@@ -12,7 +12,7 @@ use Rattle.reader.specs.Packed.{placedEntries, packed, emptyList}
 -- the text is of the grammar
 pub record Written (t : Bytes) : Type 0 where
   pub tree : Question
-  pub writes : write tree ≡ t
+  pub writes : writeQuestion tree ≡ t
 
 abbrev pub refused : ℕ → Answer
 refused n = record { refusal = n; list = emptyList }

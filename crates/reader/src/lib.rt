@@ -299,7 +299,7 @@ fn ands(text: &[u8], s: State) -> State
 // unit := '!' unit | '(' question ')' | label()= quoted | text()= quoted | path
 fn unit(text: &[u8], s: State) -> State
     requires { ⌜ Ready (now text) s ⌝ }
-    ensures { λ r. ⌜ Reads Form.part (now (text .entry)) s r ⌝ }
+    ensures { λ r. ⌜ Reads Form.unit (now (text .entry)) s r ⌝ }
 {
     let at = s.at;
     let b = peek(text, at);

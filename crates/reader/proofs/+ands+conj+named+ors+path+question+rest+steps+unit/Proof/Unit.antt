@@ -8,7 +8,7 @@ use Rattle.meaning.specs.Bytes.{ascii}
 use Rattle.meaning.specs.Question.{isLetter}
 use Rattle.reader.specs.inner.Reading.{Form}
 use Rattle.reader.proofs.Ready.{few-read, call-same, call-byte, call-bytes, call-open, quoted-ready, deeper-ready}
-use Rattle.reader.proofs.Units.{part-not, part-group, part-label, part-text, part-path}
+use Rattle.reader.proofs.Units.{unit-not, unit-group, unit-label, unit-text, unit-path}
 use Prim.Native.Nat.{ℕ}
 use Rattle.reader.proofs.path.Reads as path
 use Rattle.reader.proofs.question.Reads as question
@@ -40,10 +40,10 @@ module _ (t : ℕ) where
   unit-requires c κs = rw (c .to .ensures) (call-byte 4 4 33 (c .before .before .before .before .pre .0) (c .before .before .before .before .pre .1) (sym (c .before .before .peek .ensures) ∙ c .before .if1 .taken) (lit< tt) (lit< tt))
 
   add-requires : unit-lts.Need-add-requires (calls t) (unit-at t) unit.Post
-  add-requires c κs = omega (arith, few-read Form.part (call-byte 4 4 33 (c .before .before .before .before .before .pre .0) (c .before .before .before .before .before .pre .1) (sym (c .before .before .before .peek .ensures) ∙ c .before .before .if1 .taken) (lit< tt) (lit< tt) .1) (rw (c .before .to .ensures) at (c .unit .ensures)))
+  add-requires c κs = omega (arith, few-read Form.unit (call-byte 4 4 33 (c .before .before .before .before .before .pre .0) (c .before .before .before .before .before .pre .1) (sym (c .before .before .before .peek .ensures) ∙ c .before .before .if1 .taken) (lit< tt) (lit< tt) .1) (rw (c .before .to .ensures) at (c .unit .ensures)))
 
   returns : unit-lts.Need-returns (calls t) (unit-at t) unit.Post
-  returns c = rw (c .add .ensures) (part-not (sym (c .before .before .before .before .peek .ensures) ∙ c .before .before .before .if1 .taken) (rw (c .before .before .to .ensures) at (c .before .unit .ensures)))
+  returns c = rw (c .add .ensures) (unit-not (sym (c .before .before .before .before .peek .ensures) ∙ c .before .before .before .if1 .taken) (rw (c .before .before .to .ensures) at (c .before .unit .ensures)))
 
   deeper-requires : unit-lts.Need-deeper-requires (calls t) (unit-at t) unit.Post
   deeper-requires c κs = deeper-ready (c .before .before .before .before .pre .1)
@@ -55,7 +55,7 @@ module _ (t : ℕ) where
   shut-requires c κs = (c .question .ensures .goes .inside, (lit< tt))
 
   returns-2 : unit-lts.Need-returns-2 (calls t) (unit-at t) unit.Post
-  returns-2 c = rw (c .shut .ensures) (part-group (λ e. c .before .before .before .before .if1 .left (c .before .before .before .before .before .peek .ensures ∙ e)) (sym (c .before .before .before .before .before .peek .ensures) ∙ c .before .before .before .if2 .taken) (rw (c .before .before .deeper .ensures) at (c .before .question .ensures)))
+  returns-2 c = rw (c .shut .ensures) (unit-group (λ e. c .before .before .before .before .if1 .left (c .before .before .before .before .before .peek .ensures ∙ e)) (sym (c .before .before .before .before .before .peek .ensures) ∙ c .before .before .before .if2 .taken) (rw (c .before .before .deeper .ensures) at (c .before .question .ensures)))
 
   slice-aggregate-stands : unit-lts.Need-slice-aggregate-stands (calls t) (unit-at t) unit.Post
   slice-aggregate-stands c = refl
@@ -73,7 +73,7 @@ module _ (t : ℕ) where
   quoted-requires c κs = rw (c .to2 .ensures) (quoted-ready (call-bytes 4 0 (ascii "label()=") 8 refl (lit< tt) (c .before .before .before .before .before .before .before .before .pre .0) (c .before .before .before .before .before .before .before .before .pre .1) (sym (c .before .before .stands .ensures) ∙ c .before .if3 .taken) (lit< tt) .1))
 
   returns-3 : unit-lts.Need-returns-3 (calls t) (unit-at t) unit.Post
-  returns-3 c = part-label (λ e. c .before .before .before .before .before .before .if1 .left (c .before .before .before .before .before .before .before .peek .ensures ∙ e)) (λ e. c .before .before .before .before .before .if2 .left (c .before .before .before .before .before .before .before .peek .ensures ∙ e)) (sym (c .before .before .before .stands .ensures) ∙ c .before .before .if3 .taken) (rw (c .before .to2 .ensures) at (c .quoted .ensures))
+  returns-3 c = unit-label (λ e. c .before .before .before .before .before .before .if1 .left (c .before .before .before .before .before .before .before .peek .ensures ∙ e)) (λ e. c .before .before .before .before .before .if2 .left (c .before .before .before .before .before .before .before .peek .ensures ∙ e)) (sym (c .before .before .before .stands .ensures) ∙ c .before .before .if3 .taken) (rw (c .before .to2 .ensures) at (c .quoted .ensures))
 
   slice-aggregate-stands-2 : unit-lts.Need-slice-aggregate-stands-2 (calls t) (unit-at t) unit.Post
   slice-aggregate-stands-2 c = refl
@@ -91,13 +91,13 @@ module _ (t : ℕ) where
   quoted-requires-2 c κs = rw (c .to3 .ensures) (quoted-ready (call-bytes 4 0 (ascii "text()=") 7 refl (lit< tt) (c .before .before .before .before .before .before .before .before .before .before .before .pre .0) (c .before .before .before .before .before .before .before .before .before .before .before .pre .1) (sym (c .before .before .stands2 .ensures) ∙ c .before .if4 .taken) (lit< tt) .1))
 
   returns-4 : unit-lts.Need-returns-4 (calls t) (unit-at t) unit.Post
-  returns-4 c = part-text (λ e. c .before .before .before .before .before .before .before .before .before .if1 .left (c .before .before .before .before .before .before .before .before .before .before .peek .ensures ∙ e)) (λ e. c .before .before .before .before .before .before .before .before .if2 .left (c .before .before .before .before .before .before .before .before .before .before .peek .ensures ∙ e)) (sym (c .before .before .before .before .before .before .stands .ensures) ∙ c .before .before .before .before .before .if3 .left) (sym (c .before .before .before .stands2 .ensures) ∙ c .before .before .if4 .taken) (rw (c .before .to3 .ensures) at (c .quoted2 .ensures))
+  returns-4 c = unit-text (λ e. c .before .before .before .before .before .before .before .before .before .if1 .left (c .before .before .before .before .before .before .before .before .before .before .peek .ensures ∙ e)) (λ e. c .before .before .before .before .before .before .before .before .if2 .left (c .before .before .before .before .before .before .before .before .before .before .peek .ensures ∙ e)) (sym (c .before .before .before .before .before .before .stands .ensures) ∙ c .before .before .before .before .before .if3 .left) (sym (c .before .before .before .stands2 .ensures) ∙ c .before .before .if4 .taken) (rw (c .before .to3 .ensures) at (c .quoted2 .ensures))
 
   path-requires : unit-lts.Need-path-requires (calls t) (unit-at t) unit.Post
   path-requires c κs = call-same 4 3 (c .before .before .before .before .before .before .before .before .before .before .pre .0) (c .before .before .before .before .before .before .before .before .before .before .pre .1) (lit< tt)
 
   returns-5 : unit-lts.Need-returns-5 (calls t) (unit-at t) unit.Post
-  returns-5 c = part-path (λ e. c .before .before .before .before .before .before .before .before .if1 .left (c .before .before .before .before .before .before .before .before .before .peek .ensures ∙ e)) (λ e. c .before .before .before .before .before .before .before .if2 .left (c .before .before .before .before .before .before .before .before .before .peek .ensures ∙ e)) (sym (c .before .before .before .before .before .stands .ensures) ∙ c .before .before .before .before .if3 .left) (sym (c .before .before .stands2 .ensures) ∙ c .before .if4 .left) (c .path .ensures)
+  returns-5 c = unit-path (λ e. c .before .before .before .before .before .before .before .before .if1 .left (c .before .before .before .before .before .before .before .before .before .peek .ensures ∙ e)) (λ e. c .before .before .before .before .before .before .before .if2 .left (c .before .before .before .before .before .before .before .before .before .peek .ensures ∙ e)) (sym (c .before .before .before .before .before .stands .ensures) ∙ c .before .before .before .before .if3 .left) (sym (c .before .before .stands2 .ensures) ∙ c .before .if4 .left) (c .path .ensures)
 
   pub unit-spec : {M : Type 1} → unit-lts.Closed (calls t) (unit-at t) unit.Post M
   unit-spec = unit-lts.spec (calls t) (unit-at t) unit.Post peek-requires add-to to-requires unit-requires add-requires returns deeper-requires question-requires shut-requires returns-2 slice-aggregate-stands stands-requires add-to-2 to-requires-2 quoted-requires returns-3 slice-aggregate-stands-2 stands-requires-2 add-to-3 to-requires-3 quoted-requires-2 returns-4 path-requires returns-5
