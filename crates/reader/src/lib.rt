@@ -7,8 +7,8 @@ ghost use mathlib.Core.List.{[], _∷_};
 ghost use lib.ListN.{length, drop};
 ghost use Rattle.meaning.specs.Question.{within as inRange, isLetter, isNameByte, isQuotable};
 ghost use Rattle.reader.specs.Packed.{emptyList};
-ghost use Rattle.reader.specs.Read.{Read, refused};
-ghost use Rattle.reader.specs.inner.Reading.{pushed, added, moved, failed, deepened, byteAt, shutBy, fronts, passes, span, Form, Chain, Ready, Reads, Extends, Quotes, Scanned};
+ghost use Rattle.reader.specs.Read.{Read};
+ghost use Rattle.reader.specs.inner.Reading.{pushed, added, moved, failed, deepened, byteAt, shutBy, fronts, passes, span, Form, Chain, Ready, Reads, Extends, Quotes, refused, Scanned};
 
 // The answer to a text: 0 and its list, or the number of the refusal and the empty list.
 #[repr(C)]

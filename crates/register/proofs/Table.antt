@@ -25,7 +25,7 @@ use Rattle.question.specs.Listed.{Keeps, listed}
 use Rattle.reader.specs.Nesting.{nesting}
 use Rattle.reader.specs.Packed.{placedEntries, packed}
 use Rattle.reader.specs.Read.{Written, Read}
-use Rattle.reader.proofs.Outcome.{read-keeps, read-listed}
+use Rattle.reader.proofs.Outcome.{read-taken, taken-list, read-keeps, read-listed}
 use Rattle.question.proofs.Listed.{keeps-earlier}
 use Rattle.depot.proofs.Laid.{no-steps}
 use Rattle.depot.proofs.Promised.{laid-bound}
@@ -37,7 +37,7 @@ use Rattle.register.proofs.Tried.{cut, isOpen, tells, one-box, none-1, 
 -- ---- condition 3 applies: fragment 0 keeps the bound, the others make no step
 module _ (text : Bytes) (good : Good text) where
   reads : Read text (record { refusal = 0; list = packed (placedEntries (good .written .tree)) })
-  reads = Read.list (good .some-byte) (good .few-bytes) (good .written) (good .shallow) (good .few-entries)
+  reads = taken-list (read-taken (good .written) (good .some-byte, good .few-bytes) (good .shallow) (good .few-entries)) (good .written)
 
   keeps : Keeps (round text good .list) text
   keeps = read-keeps text (round text good .list) reads

@@ -3,11 +3,12 @@
 use Prim.Native.Nat.{ℕ, zero, suc, _+_, _-_, _*_, _%_, _≤_, _<_, max}
 use mathlib.Core.Path.{_≡_}
 use mathlib.Core.Bool.{Bool, true, false, cond, _&&_}
-use mathlib.Core.Logic.{_⊎_}
+use mathlib.Core.Logic.{_≢_}
 use mathlib.Core.List.{List, [], _∷_, _++_}
 use lib.ListN.{length, getD, drop, set}
 use lib.Dec.{ltb, eqb}
-use Rattle.meaning.specs.Bytes.{Bytes, ascii}
+use Rattle.meaning.specs.Refused.{Granted}
+use Rattle.meaning.specs.Bytes.{Bytes}
 use Rattle.meaning.specs.Question.{Question, Conj, OneUnit, Begin, Steps, Rest, Quoted, isNameByte, isQuotable, writeQuoted}
 use Rattle.meaning.specs.Question.{writeQuestion, writeConj, writeUnit, writeBegin, writeSteps, writeRest}
 use Rattle.meaning.specs.Term.{Term, beginning, normal, normalConj, normalUnit, normalSteps, normalRest}
@@ -15,9 +16,8 @@ use Rattle.meaning.specs.Entry.{Entry, root, flat}
 use Rattle.question.specs.declared.List as L
 use Rattle.reader.specs.declared.State.{State}
 use Rattle.reader.specs.declared.Answer.{Answer}
-use Rattle.reader.specs.Nesting.{nesting}
 use Rattle.reader.specs.Packed.{Place, wordPlace, kindCode, leftOf, rightOf, placedEntries, emptyList}
-use Rattle.reader.specs.Read.{Written, refused}
+use Rattle.reader.specs.Read.{Written, Scan}
 
 -- THE STATE'S STEPS. An entry more: counted, and kept where there is room
 abbrev pub stored : List ℕ → ℕ → ℕ → List ℕ
@@ -255,9 +255,11 @@ pub record Quotes (t : Bytes) (s r : State) (kind : ℕ) : Type 0 where
   pub sound : r .ok ≡ true → (w : Quoted) × (r ≡ afterQuoted s kind w) × (drop (s .at) t ≡ writeQuoted w ++ drop (r .at) t)
   pub complete : (w : Quoted) (z : Bytes) → drop (s .at) t ≡ writeQuoted w ++ z → r ≡ afterQuoted s kind w
 
--- WHAT BECOMES OF A TEXT, 4 apart
-pub data Scanned (t : Bytes) : Answer → Type 0 where
-  wrong-length : (length t ≡ 0) ⊎ (255 < length t) → Scanned t (refused 1)
-  not-grammar : 1 ≤ length t → length t ≤ 255 → (Written t → ⊥) → Scanned t (refused 2)
-  too-deep : 1 ≤ length t → length t ≤ 255 → (w : Written t) → 12 < nesting (w .tree) → Scanned t (refused 3)
-  read : 1 ≤ length t → length t ≤ 255 → (w : Written t) → nesting (w .tree) ≤ 12 → Scanned t (record { refusal = 0; list = kept (placedEntries (w .tree)) emptyList })
+-- WHAT BECOMES OF A TEXT, 4 apart: all entries are counted
+abbrev pub refused : ℕ → Answer
+refused n = record { refusal = n; list = emptyList }
+
+pub record Scanned (t : Bytes) (a : Answer) : Type 0 where
+  pub why : Scan t Granted (a .refusal)
+  pub refused : a .refusal ≢ 0 → a .list ≡ emptyList
+  pub listed : a .refusal ≡ 0 → (w : Written t) → a .list ≡ kept (placedEntries (w .tree)) emptyList
