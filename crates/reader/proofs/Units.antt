@@ -103,7 +103,7 @@ module _ {t : Bytes} where
           let w = a .complete ok u z (rest-at t (s .at) (33 ∷ []) (writeUnit u ++ z) e) f in
           (w .0, made u (w .1))
 
-  pub unit-group : {s m : State} → (byteAt t (s .at) ≡ 33 → ⊥) → byteAt t (s .at) ≡ 40 → Reads Form.question t (deepened s) m → Reads Form.unit t s (shutBy t m 41 (s .depth))
+  pub unit-group : {s m : State} → (byteAt t (s .at) ≡ 33 → ⊥) → byteAt t (s .at) ≡ 40 → Reads Form.question t (deepened s (s .at + 1)) m → Reads Form.unit t s (shutBy t m 41 (s .depth))
   unfolding writeQuestion normal reach
   unit-group {s} {m} n b a =
       let i : s .at < length t = inside t (s .at) 40 b (lit< tt) in
@@ -117,7 +117,7 @@ module _ {t : Bytes} where
         complete = λ ok p z e f. go ok p z e f (unit-view-at t s p z UnitKind.group e f (rw (ne-eqb _ 33 n, eq-eqb _ 40 b)));
       }
     where
-      made : (q : Question) → byteAt t (m .at) ≡ 41 → MadeOf Form.question t (deepened s) m q → MadeOf Form.unit t s (moved (opened m (s .depth)) (m .at + 1)) (OneUnit.group q)
+      made : (q : Question) → byteAt t (m .at) ≡ 41 → MadeOf Form.question t (deepened s (s .at + 1)) m q → MadeOf Form.unit t s (moved (opened m (s .depth)) (m .at + 1)) (OneUnit.group q)
       made q d x = after-open 40 b (lit< tt) (before-shut 41 (s .depth) d (lit< tt) x)
 
       go : s .ok ≡ true → (p : OneUnit) (z : Bytes) → drop (s .at) t ≡ writeUnit p ++ z → PathEnds (getD z 0 0) → UnitView UnitKind.group p → (shutBy t m 41 (s .depth) .ok ≡ true) × MadeOf Form.unit t s (shutBy t m 41 (s .depth)) p

@@ -207,7 +207,7 @@ module _ {t : Bytes} where
           let w = a .complete ok u z (rest-at t (s .at) (47 ∷ []) (writeSteps u ++ z) e) f in
           (w .0, after-byte 47 b (lit< tt) (w .1))
 
-  pub rest-bracket : {s m r : State} → byteAt t (s .at) ≡ 91 → Reads Form.question t (deepened s) m → Reads Form.rest t (shutBy t m 93 (s .depth)) r → Reads Form.rest t s (added r 4 (shutBy t m 93 (s .depth) .top) (r .top))
+  pub rest-bracket : {s m r : State} → byteAt t (s .at) ≡ 91 → Reads Form.question t (deepened s (s .at + 1)) m → Reads Form.rest t (shutBy t m 93 (s .depth)) r → Reads Form.rest t s (added r 4 (shutBy t m 93 (s .depth) .top) (r .top))
   unfolding writeQuestion normal reach root
   rest-bracket {s} {m} {r} b a x =
       let i : s .at < length t = inside t (s .at) 91 b (lit< tt) in
@@ -225,7 +225,7 @@ module _ {t : Bytes} where
       shut : State
       shut = moved (opened m (s .depth)) (m .at + 1)
 
-      made : (q : Question) (u : Rest) → byteAt t (m .at) ≡ 93 → MadeOf Form.question t (deepened s) m q → MadeOf Form.rest t (shutBy t m 93 (s .depth)) r u → MadeOf Form.rest t s (added r 4 (shutBy t m 93 (s .depth) .top) (r .top)) (Rest.bracket q u)
+      made : (q : Question) (u : Rest) → byteAt t (m .at) ≡ 93 → MadeOf Form.question t (deepened s (s .at + 1)) m q → MadeOf Form.rest t (shutBy t m 93 (s .depth)) r u → MadeOf Form.rest t s (added r 4 (shutBy t m 93 (s .depth) .top) (r .top)) (Rest.bracket q u)
       made q u d y v = rw (shut-done t m 93 (s .depth) d)
           (recast (ap (λ k. 91 ∷ k) (append-assoc (writeQuestion q) (93 ∷ []) (writeRest u))) (ap (λ k. Term.at (normal wordPlace (s .at + 1) q) (normalRest wordPlace k u)) place)
           (over-two 4 Term.at emit-at (λ n a b. refl) (after-open 91 b (lit< tt) (before-shut 93 (s .depth) d (lit< tt) y)) (subst (λ k. MadeOf Form.rest t k r u) (shut-done t m 93 (s .depth) d) v)))

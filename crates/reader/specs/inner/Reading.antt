@@ -36,8 +36,8 @@ abbrev pub failed : State → State
 failed s = record { ok = false; at = s .at; top = s .top; depth = s .depth; most = s .most; list = s .list }
 
 -- past an opening bracket
-abbrev pub deepened : State → State
-deepened s = record { ok = s .ok; at = s .at + 1; top = s .top; depth = s .depth + 1; most = max (s .most) (s .depth + 1); list = s .list }
+abbrev pub deepened : State → ℕ → State
+deepened s at = record { ok = s .ok; at = at; top = s .top; depth = s .depth + 1; most = max (s .most) (s .depth + 1); list = s .list }
 
 abbrev pub opened : State → ℕ → State
 opened s depth = record { ok = s .ok; at = s .at; top = s .top; depth = depth; most = s .most; list = s .list }
