@@ -6,7 +6,7 @@ use Rattle.meaning.specs.Tree.{Tree, Below}
 use Rattle.meaning.specs.Question.{Question, Conj, OneUnit, Steps, Rest, Begin, Sign, Move}
 
 module _ (t : Tree) where
-  -- a leading `//` goes to the row itself or any row below
+  -- `//` goes to the row itself or any row below; nothing, and `/`, stay
   abbrev pub Begins : Begin → t .N → t .N → Type 0
   Begins Begin.plain u v = u ≡ v
   Begins Begin.deep u v = Below t u v
@@ -30,7 +30,7 @@ module _ (t : Tree) where
     HoldsConj (Conj.unit p) u = HoldsUnit p u
     HoldsConj (Conj.both c p) u = HoldsConj c u × HoldsUnit p u
 
-    -- a path holds if some row is reached
+    -- a path holds if some row v is reached
     pub HoldsUnit : OneUnit → t .N → Type 0
     HoldsUnit (OneUnit.deny p) u = HoldsUnit p u → ⊥
     HoldsUnit (OneUnit.group q) u = Holds q u

@@ -28,8 +28,9 @@ all p (b ∷ w) = p b && all p w
 -- a letter, then letters, digits, `-`, `_`, 64 bytes at most
 unfoldable pub isName : Bytes → Bool
 isName [] = false
-isName (b ∷ w) = isLetter b && all isNameByte w && leb (length w) 63
+isName (b ∷ w) = isLetter b && all isNameByte w && leb (length (b ∷ w)) 64
 
+-- 0 to 64 such bytes
 unfoldable pub isQuoted : Bytes → Bool
 isQuoted w = all isQuotable w && leb (length w) 64
 
@@ -72,10 +73,11 @@ mutual
     label text : Quoted → OneUnit
     path : Begin → Steps → OneUnit
 
+  -- a step, and what follows it
   pub data Steps : Type 0 where
     step : Move → Rest → Steps
 
-  -- what follows `.`, `*` or a name: the path's end, `/text()=` quoted, a bracket and what follows it, the next step
+  -- what follows `.`, `*` or a name: nothing, `/text()=` quoted, `[` question `]` and what follows that, the next steps
   pub data Rest : Type 0 where
     end : Rest
     ends : Quoted → Rest

@@ -19,7 +19,7 @@ pub data Term (W : Type 0) : Type 0 where
   or and : Term W → Term W → Term W
   not : Term W → Term W
 
--- `named a w` is the word w that starts at the place a; each part is told at which place it is written
+-- `named a w` is the word w that starts at the place a, a quoted one behind its quote; each part is told at which place it is written
 module _ {W : Type 0} (named : ℕ → Bytes → W) where
   -- a name: some child has the label and the rest
   abbrev pub moving : ℕ → Move → Term W → Term W

@@ -39,13 +39,13 @@ letter-name b e = rw e
 pub name-head : (w x : Bytes) → T (isName w) → isLetter (getD (w ++ x) 0 0) ≡ true
 unfolding isName
 name-head [] x h = absurd h
-name-head (b ∷ w) x h = holds (isLetter b) (both (isLetter b) (all isNameByte w) (both (isLetter b && all isNameByte w) (leb (length w) 63) h .0) .0)
+name-head (b ∷ w) x h = holds (isLetter b) (both (isLetter b) (all isNameByte w) (both (isLetter b && all isNameByte w) (leb (suc (length w)) 64) h .0) .0)
 
 pub name-all : (w : Bytes) → T (isName w) → T (all isNameByte w)
 unfolding isName all
 name-all [] h = tt
 name-all (b ∷ w) h =
-    let i = both (isLetter b) (all isNameByte w) (both (isLetter b && all isNameByte w) (leb (length w) 63) h .0) in
+    let i = both (isLetter b) (all isNameByte w) (both (isLetter b && all isNameByte w) (leb (suc (length w)) 64) h .0) in
     subst T (sym (ap (λ c. c && all isNameByte w) (letter-name b (holds (isLetter b) (i .0))))) (i .1)
 
 pub not-letter : (b c : ℕ) → isLetter b ≡ true → isLetter c ≡ false → b ≡ c → ⊥
