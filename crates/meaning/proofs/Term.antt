@@ -6,9 +6,9 @@ use mathlib.Core.Logic.{_⊎_, inl, inr, ⊎-elim, _↔_}
 use Rattle.meaning.specs.Says.{Says, aye}
 use Rattle.meaning.specs.Bytes.{Bytes}
 use Rattle.meaning.specs.Tree.{Tree, Below}
-use Rattle.meaning.specs.Question.{Question, Conj, Part, Path, Steps, Rest, Begin, Sign, Move}
-use Rattle.meaning.specs.Holds.{Begins, Crosses, Moves, Holds, HoldsConj, HoldsPart, Reaches, Walks, Goes}
-use Rattle.meaning.specs.Term.{Term, moving, beginning, crossing, normal, normalConj, normalPart, normalPath, normalSteps, normalRest, Means}
+use Rattle.meaning.specs.Question.{Question, Conj, OneUnit, Steps, Rest, Begin, Sign, Move}
+use Rattle.meaning.specs.Holds.{Begins, Crosses, Moves, Holds, HoldsConj, HoldsUnit, Walks, Goes}
+use Rattle.meaning.specs.Term.{Term, moving, beginning, crossing, normal, normalConj, normalUnit, normalSteps, normalRest, Means}
 use Rattle.meaning.proofs.Says.{says-not, says-and, says-or, says-self, some}
 use Rattle.meaning.proofs.Tree.{Finite, some-child, deep, deep-says}
 
@@ -102,18 +102,15 @@ module _ (t : Tree) where
     holds-normal (Question.either q c) a u = iff-or (holds-normal q a u) (conj-normal c _ u)
 
     conj-normal : (c : Conj) (a : ℕ) (u : t .N) → HoldsConj t c u ↔ Means t (normalConj bytes a c) u
-    conj-normal (Conj.part p) a u = part-normal p a u
-    conj-normal (Conj.both c p) a u = iff-and (conj-normal c a u) (part-normal p _ u)
+    conj-normal (Conj.unit p) a u = unit-normal p a u
+    conj-normal (Conj.both c p) a u = iff-and (conj-normal c a u) (unit-normal p _ u)
 
-    part-normal : (p : Part) (a : ℕ) (u : t .N) → HoldsPart t p u ↔ Means t (normalPart bytes a p) u
-    part-normal (Part.deny p) a u = iff-not (part-normal p _ u)
-    part-normal (Part.group q) a u = holds-normal q _ u
-    part-normal (Part.label w) a u = (λ h. h, λ h. h)
-    part-normal (Part.text w) a u = (λ h. h, λ h. h)
-    part-normal (Part.path p) a u = path-normal p a u
-
-    path-normal : (p : Path) (a : ℕ) (u : t .N) → Some (Reaches t p) u ↔ Means t (normalPath bytes a p) u
-    path-normal (Path.from b s) a u = iff-chain by-way (begins (Some (Walks t s)) (normalSteps bytes _ s) (λ v. steps-normal s _ v) b u)
+    unit-normal : (p : OneUnit) (a : ℕ) (u : t .N) → HoldsUnit t p u ↔ Means t (normalUnit bytes a p) u
+    unit-normal (OneUnit.deny p) a u = iff-not (unit-normal p _ u)
+    unit-normal (OneUnit.group q) a u = holds-normal q _ u
+    unit-normal (OneUnit.label w) a u = (λ h. h, λ h. h)
+    unit-normal (OneUnit.text w) a u = (λ h. h, λ h. h)
+    unit-normal (OneUnit.path b s) a u = iff-chain (λ p. (p .0, p .2, (p .1, p .3)), λ p. (p .0, p .2 .0, p .1, p .2 .1)) (begins (Some (Walks t s)) (normalSteps bytes _ s) (λ v. steps-normal s _ v) b u)
 
     steps-normal : (s : Steps) (a : ℕ) (u : t .N) → Some (Walks t s) u ↔ Means t (normalSteps bytes a s) u
     steps-normal (Steps.step m r) a u = iff-chain by-way (moves (Some (Goes t r)) (normalRest bytes _ r) (λ v. rest-normal r _ v) m a u)

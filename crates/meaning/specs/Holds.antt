@@ -3,10 +3,10 @@ use mathlib.Core.Path.{_≡_}
 use mathlib.Core.Bool.{true}
 use mathlib.Core.Logic.{_⊎_}
 use Rattle.meaning.specs.Tree.{Tree, Below}
-use Rattle.meaning.specs.Question.{Question, Conj, Part, Path, Steps, Rest, Begin, Sign, Move}
+use Rattle.meaning.specs.Question.{Question, Conj, OneUnit, Steps, Rest, Begin, Sign, Move}
 
 module _ (t : Tree) where
-  -- a leading `//` goes to the row itself or any row below
+  -- `//` goes to the row itself or any row below; nothing, and `/`, stay
   abbrev pub Begins : Begin → t .N → t .N → Type 0
   Begins Begin.plain u v = u ≡ v
   Begins Begin.deep u v = Below t u v
@@ -27,19 +27,16 @@ module _ (t : Tree) where
     Holds (Question.either q c) u = Holds q u ⊎ HoldsConj c u
 
     pub HoldsConj : Conj → t .N → Type 0
-    HoldsConj (Conj.part p) u = HoldsPart p u
-    HoldsConj (Conj.both c p) u = HoldsConj c u × HoldsPart p u
+    HoldsConj (Conj.unit p) u = HoldsUnit p u
+    HoldsConj (Conj.both c p) u = HoldsConj c u × HoldsUnit p u
 
-    -- a path holds if some row is reached
-    pub HoldsPart : Part → t .N → Type 0
-    HoldsPart (Part.deny p) u = HoldsPart p u → ⊥
-    HoldsPart (Part.group q) u = Holds q u
-    HoldsPart (Part.label w) u = t .label? (w .bytes) u ≡ true
-    HoldsPart (Part.text w) u = t .text? (w .bytes) u ≡ true
-    HoldsPart (Part.path p) u = (v : t .N) × Reaches p u v
-
-    pub Reaches : Path → t .N → t .N → Type 0
-    Reaches (Path.from b s) u v = (x : t .N) × Begins b u x × Walks s x v
+    -- a path holds if some row v is reached
+    pub HoldsUnit : OneUnit → t .N → Type 0
+    HoldsUnit (OneUnit.deny p) u = HoldsUnit p u → ⊥
+    HoldsUnit (OneUnit.group q) u = Holds q u
+    HoldsUnit (OneUnit.label w) u = t .label? (w .bytes) u ≡ true
+    HoldsUnit (OneUnit.text w) u = t .text? (w .bytes) u ≡ true
+    HoldsUnit (OneUnit.path b s) u = (x v : t .N) × Begins b u x × Walks s x v
 
     pub Walks : Steps → t .N → t .N → Type 0
     Walks (Steps.step m r) u v = (x : t .N) × Moves m u x × Goes r x v

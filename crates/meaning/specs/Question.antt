@@ -28,8 +28,9 @@ all p (b ∷ w) = p b && all p w
 -- a letter, then letters, digits, `-`, `_`, 64 bytes at most
 unfoldable pub isName : Bytes → Bool
 isName [] = false
-isName (b ∷ w) = isLetter b && all isNameByte w && leb (length w) 63
+isName (b ∷ w) = isLetter b && all isNameByte w && leb (length (b ∷ w)) 64
 
+-- 0 to 64 such bytes
 unfoldable pub isQuoted : Bytes → Bool
 isQuoted w = all isQuotable w && leb (length w) 64
 
@@ -62,23 +63,21 @@ mutual
 
   -- conjunctions, grouping to the left
   pub data Conj : Type 0 where
-    part : Part → Conj
-    both : Conj → Part → Conj
+    unit : OneUnit → Conj
+    both : Conj → OneUnit → Conj
 
-  -- 01's units: `!` and a unit, `(` question `)`, `label()=` quoted, `text()=` quoted, a path
-  pub data Part : Type 0 where
-    deny : Part → Part
-    group : Question → Part
-    label text : Quoted → Part
-    path : Path → Part
+  -- a unit: `!` and a unit, `(` question `)`, `label()=` quoted, `text()=` quoted, a path
+  pub data OneUnit : Type 0 where
+    deny : OneUnit → OneUnit
+    group : Question → OneUnit
+    label text : Quoted → OneUnit
+    path : Begin → Steps → OneUnit
 
-  pub data Path : Type 0 where
-    from : Begin → Steps → Path
-
+  -- a step, and what follows it
   pub data Steps : Type 0 where
     step : Move → Rest → Steps
 
-  -- what follows `.`, `*` or a name: the path's end, `/text()=` quoted, a bracket and what follows it, the next step
+  -- what follows `.`, `*` or a name: nothing, `/text()=` quoted, `[` question `]` and what follows that, the next steps
   pub data Rest : Type 0 where
     end : Rest
     ends : Quoted → Rest
@@ -102,23 +101,20 @@ writeMove star = ascii "*"
 writeMove (name n) = n .bytes
 
 unfoldable mutual
-  pub write : Question → Bytes
-  write (conj c) = writeConj c
-  write (either q c) = write q ++ (ascii "|" ++ writeConj c)
+  pub writeQuestion : Question → Bytes
+  writeQuestion (conj c) = writeConj c
+  writeQuestion (either q c) = writeQuestion q ++ (ascii "|" ++ writeConj c)
 
   pub writeConj : Conj → Bytes
-  writeConj (part p) = writePart p
-  writeConj (both c p) = writeConj c ++ (ascii "&" ++ writePart p)
+  writeConj (unit p) = writeUnit p
+  writeConj (both c p) = writeConj c ++ (ascii "&" ++ writeUnit p)
 
-  pub writePart : Part → Bytes
-  writePart (deny p) = ascii "!" ++ writePart p
-  writePart (group q) = ascii "(" ++ (write q ++ ascii ")")
-  writePart (label w) = ascii "label()=" ++ writeQuoted w
-  writePart (text w) = ascii "text()=" ++ writeQuoted w
-  writePart (path p) = writePath p
-
-  pub writePath : Path → Bytes
-  writePath (from b s) = writeBegin b ++ writeSteps s
+  pub writeUnit : OneUnit → Bytes
+  writeUnit (deny p) = ascii "!" ++ writeUnit p
+  writeUnit (group q) = ascii "(" ++ (writeQuestion q ++ ascii ")")
+  writeUnit (label w) = ascii "label()=" ++ writeQuoted w
+  writeUnit (text w) = ascii "text()=" ++ writeQuoted w
+  writeUnit (path b s) = writeBegin b ++ writeSteps s
 
   pub writeSteps : Steps → Bytes
   writeSteps (step m r) = writeMove m ++ writeRest r
@@ -126,5 +122,5 @@ unfoldable mutual
   pub writeRest : Rest → Bytes
   writeRest end = []
   writeRest (ends w) = ascii "/text()=" ++ writeQuoted w
-  writeRest (bracket q r) = ascii "[" ++ (write q ++ (ascii "]" ++ writeRest r))
+  writeRest (bracket q r) = ascii "[" ++ (writeQuestion q ++ (ascii "]" ++ writeRest r))
   writeRest (onward g s) = writeSign g ++ writeSteps s

@@ -7,8 +7,8 @@ use mathlib.Core.Logic.{_⊎_}
 use lib.ListN.{length}
 use Rattle.meaning.specs.Bytes.{Bytes}
 use Rattle.meaning.specs.Tree.{Tree, Below}
-use Rattle.meaning.specs.Question.{Question, Conj, Part, Path, Steps, Rest, Begin, Sign, Move}
-use Rattle.meaning.specs.Question.{write, writeConj, writeBegin, writeSign, writeMove}
+use Rattle.meaning.specs.Question.{Question, Conj, OneUnit, Steps, Rest, Begin, Sign, Move}
+use Rattle.meaning.specs.Question.{writeQuestion, writeConj, writeBegin, writeSign, writeMove}
 
 pub data Term (W : Type 0) : Type 0 where
   self : Term W
@@ -19,7 +19,7 @@ pub data Term (W : Type 0) : Type 0 where
   or and : Term W → Term W → Term W
   not : Term W → Term W
 
--- `named a w` is the word w that starts at the place a; each part is told at which place it is written
+-- `named a w` is the word w that starts at the place a, a quoted one behind its quote; each part is told at which place it is written
 module _ {W : Type 0} (named : ℕ → Bytes → W) where
   -- a name: some child has the label and the rest
   abbrev pub moving : ℕ → Move → Term W → Term W
@@ -38,21 +38,18 @@ module _ {W : Type 0} (named : ℕ → Bytes → W) where
   unfoldable mutual
     pub normal : ℕ → Question → Term W
     normal a (Question.conj c) = normalConj a c
-    normal a (Question.either q c) = or (normal a q) (normalConj (a + length (write q) + 1) c)
+    normal a (Question.either q c) = or (normal a q) (normalConj (a + length (writeQuestion q) + 1) c)
 
     pub normalConj : ℕ → Conj → Term W
-    normalConj a (Conj.part p) = normalPart a p
-    normalConj a (Conj.both c p) = and (normalConj a c) (normalPart (a + length (writeConj c) + 1) p)
+    normalConj a (Conj.unit p) = normalUnit a p
+    normalConj a (Conj.both c p) = and (normalConj a c) (normalUnit (a + length (writeConj c) + 1) p)
 
-    pub normalPart : ℕ → Part → Term W
-    normalPart a (Part.deny p) = not (normalPart (a + 1) p)
-    normalPart a (Part.group q) = normal (a + 1) q
-    normalPart a (Part.label w) = label (named (a + 9) (w .bytes))
-    normalPart a (Part.text w) = text (named (a + 8) (w .bytes))
-    normalPart a (Part.path p) = normalPath a p
-
-    pub normalPath : ℕ → Path → Term W
-    normalPath a (Path.from b s) = beginning b (normalSteps (a + length (writeBegin b)) s)
+    pub normalUnit : ℕ → OneUnit → Term W
+    normalUnit a (OneUnit.deny p) = not (normalUnit (a + 1) p)
+    normalUnit a (OneUnit.group q) = normal (a + 1) q
+    normalUnit a (OneUnit.label w) = label (named (a + 9) (w .bytes))
+    normalUnit a (OneUnit.text w) = text (named (a + 8) (w .bytes))
+    normalUnit a (OneUnit.path b s) = beginning b (normalSteps (a + length (writeBegin b)) s)
 
     pub normalSteps : ℕ → Steps → Term W
     normalSteps a (Steps.step m r) = moving a m (normalRest (a + length (writeMove m)) r)
@@ -60,7 +57,7 @@ module _ {W : Type 0} (named : ℕ → Bytes → W) where
     pub normalRest : ℕ → Rest → Term W
     normalRest a Rest.end = self
     normalRest a (Rest.ends w) = text (named (a + 9) (w .bytes))
-    normalRest a (Rest.bracket q r) = at (normal (a + 1) q) (normalRest (a + length (write q) + 2) r)
+    normalRest a (Rest.bracket q r) = at (normal (a + 1) q) (normalRest (a + length (writeQuestion q) + 2) r)
     normalRest a (Rest.onward g s) = crossing g (normalSteps (a + length (writeSign g)) s)
 
 -- at a row: child, some child has it; at, both here; lower (01's below), here or lower

@@ -6,9 +6,9 @@ use mathlib.Core.Path.{_≡_, refl, sym, ap, ap₂, _∙_, subst}
 use mathlib.Core.List.{List, [], _∷_, _++_, append-assoc}
 use lib.ListN.{length, drop, length-append}
 use Rattle.meaning.specs.Bytes.{Bytes, ascii}
-use Rattle.meaning.specs.Question.{Question, Conj, Part, Path, Steps, Rest, Begin, Sign, Move, Name, Quoted, writeQuoted, writeBegin, writeSign, writeMove}
-use Rattle.meaning.specs.Question.{write, writeConj, writePart, writePath, writeSteps, writeRest}
-use Rattle.meaning.specs.Term.{Term, moving, beginning, crossing, normal, normalConj, normalPart, normalPath, normalSteps, normalRest}
+use Rattle.meaning.specs.Question.{Question, Conj, OneUnit, Steps, Rest, Begin, Sign, Move, Name, Quoted, writeQuoted, writeBegin, writeSign, writeMove}
+use Rattle.meaning.specs.Question.{writeQuestion, writeConj, writeUnit, writeSteps, writeRest}
+use Rattle.meaning.specs.Term.{Term, moving, beginning, crossing, normal, normalConj, normalUnit, normalSteps, normalRest}
 use Rattle.meaning.specs.Entry.{Entry, root, flat}
 use Rattle.reader.proofs.Text.{rest-at}
 use Rattle.reader.proofs.Words.{name-size, name-some-byte, quoted-size}
@@ -101,25 +101,22 @@ module _ {X Y : Type 0} (R : X → Y → Type 0) where
     crosses Sign.slashes h = Alike.lower h
 
     mutual
-      unfolding write normal
+      unfolding writeQuestion normal
 
-      pub normal-alike : (q : Question) (a : ℕ) (z : Bytes) → drop a t ≡ write q ++ z → Alike (normal f a q) (normal g a q)
+      pub normal-alike : (q : Question) (a : ℕ) (z : Bytes) → drop a t ≡ writeQuestion q ++ z → Alike (normal f a q) (normal g a q)
       normal-alike (Question.conj c) a z e = conj-alike c a z e
-      normal-alike (Question.either q c) a z e = Alike.or (normal-alike q a ((124 ∷ writeConj c) ++ z) (e ∙ append-assoc (write q) (124 ∷ writeConj c) z)) (conj-alike c (a + length (write q) + 1) z (rest-at t (a + length (write q)) (124 ∷ []) (writeConj c ++ z) (rest-at t a (write q) ((124 ∷ writeConj c) ++ z) (e ∙ append-assoc (write q) (124 ∷ writeConj c) z))))
+      normal-alike (Question.either q c) a z e = Alike.or (normal-alike q a ((124 ∷ writeConj c) ++ z) (e ∙ append-assoc (writeQuestion q) (124 ∷ writeConj c) z)) (conj-alike c (a + length (writeQuestion q) + 1) z (rest-at t (a + length (writeQuestion q)) (124 ∷ []) (writeConj c ++ z) (rest-at t a (writeQuestion q) ((124 ∷ writeConj c) ++ z) (e ∙ append-assoc (writeQuestion q) (124 ∷ writeConj c) z))))
 
       conj-alike : (c : Conj) (a : ℕ) (z : Bytes) → drop a t ≡ writeConj c ++ z → Alike (normalConj f a c) (normalConj g a c)
-      conj-alike (Conj.part p) a z e = part-alike p a z e
-      conj-alike (Conj.both c p) a z e = Alike.and (conj-alike c a ((38 ∷ writePart p) ++ z) (e ∙ append-assoc (writeConj c) (38 ∷ writePart p) z)) (part-alike p (a + length (writeConj c) + 1) z (rest-at t (a + length (writeConj c)) (38 ∷ []) (writePart p ++ z) (rest-at t a (writeConj c) ((38 ∷ writePart p) ++ z) (e ∙ append-assoc (writeConj c) (38 ∷ writePart p) z))))
+      conj-alike (Conj.unit p) a z e = unit-alike p a z e
+      conj-alike (Conj.both c p) a z e = Alike.and (conj-alike c a ((38 ∷ writeUnit p) ++ z) (e ∙ append-assoc (writeConj c) (38 ∷ writeUnit p) z)) (unit-alike p (a + length (writeConj c) + 1) z (rest-at t (a + length (writeConj c)) (38 ∷ []) (writeUnit p ++ z) (rest-at t a (writeConj c) ((38 ∷ writeUnit p) ++ z) (e ∙ append-assoc (writeConj c) (38 ∷ writeUnit p) z))))
 
-      part-alike : (p : Part) (a : ℕ) (z : Bytes) → drop a t ≡ writePart p ++ z → Alike (normalPart f a p) (normalPart g a p)
-      part-alike (Part.deny p) a z e = Alike.not (part-alike p (a + 1) z (rest-at t a (33 ∷ []) (writePart p ++ z) e))
-      part-alike (Part.group q) a z e = normal-alike q (a + 1) (41 ∷ z) (rest-at t a (40 ∷ []) _ e ∙ append-assoc (write q) (41 ∷ []) z)
-      part-alike (Part.label w) a z e = Alike.label (quoted (ascii "label()=") 8 a w z refl e)
-      part-alike (Part.text w) a z e = Alike.text (quoted (ascii "text()=") 7 a w z refl e)
-      part-alike (Part.path p) a z e = path-alike p a z e
-
-      path-alike : (p : Path) (a : ℕ) (z : Bytes) → drop a t ≡ writePath p ++ z → Alike (normalPath f a p) (normalPath g a p)
-      path-alike (Path.from b s) a z e = begins b (steps-alike s (a + length (writeBegin b)) z (rest-at t a (writeBegin b) (writeSteps s ++ z) (e ∙ append-assoc (writeBegin b) (writeSteps s) z)))
+      unit-alike : (p : OneUnit) (a : ℕ) (z : Bytes) → drop a t ≡ writeUnit p ++ z → Alike (normalUnit f a p) (normalUnit g a p)
+      unit-alike (OneUnit.deny p) a z e = Alike.not (unit-alike p (a + 1) z (rest-at t a (33 ∷ []) (writeUnit p ++ z) e))
+      unit-alike (OneUnit.group q) a z e = normal-alike q (a + 1) (41 ∷ z) (rest-at t a (40 ∷ []) _ e ∙ append-assoc (writeQuestion q) (41 ∷ []) z)
+      unit-alike (OneUnit.label w) a z e = Alike.label (quoted (ascii "label()=") 8 a w z refl e)
+      unit-alike (OneUnit.text w) a z e = Alike.text (quoted (ascii "text()=") 7 a w z refl e)
+      unit-alike (OneUnit.path b s) a z e = begins b (steps-alike s (a + length (writeBegin b)) z (rest-at t a (writeBegin b) (writeSteps s ++ z) (e ∙ append-assoc (writeBegin b) (writeSteps s) z)))
 
       steps-alike : (s : Steps) (a : ℕ) (z : Bytes) → drop a t ≡ writeSteps s ++ z → Alike (normalSteps f a s) (normalSteps g a s)
       steps-alike (Steps.step m r) a z e = moves m a (writeRest r ++ z) _ _ (e ∙ append-assoc (writeMove m) (writeRest r) z) (rest-alike r (a + length (writeMove m)) z (rest-at t a (writeMove m) (writeRest r ++ z) (e ∙ append-assoc (writeMove m) (writeRest r) z)))
@@ -127,11 +124,11 @@ module _ {X Y : Type 0} (R : X → Y → Type 0) where
       rest-alike : (r : Rest) (a : ℕ) (z : Bytes) → drop a t ≡ writeRest r ++ z → Alike (normalRest f a r) (normalRest g a r)
       rest-alike Rest.end a z e = Alike.self
       rest-alike (Rest.ends w) a z e = Alike.text (quoted (ascii "/text()=") 8 a w z refl e)
-      rest-alike (Rest.bracket q r) a z e = Alike.at (normal-alike q (a + 1) ((93 ∷ writeRest r) ++ z) inner) (subst (λ k. Alike (normalRest f k r) (normalRest g k r)) place (rest-alike r (a + 1 + length (write q) + 1) z (rest-at t (a + 1 + length (write q)) (93 ∷ []) (writeRest r ++ z) (rest-at t (a + 1) (write q) ((93 ∷ writeRest r) ++ z) inner))))
+      rest-alike (Rest.bracket q r) a z e = Alike.at (normal-alike q (a + 1) ((93 ∷ writeRest r) ++ z) inner) (subst (λ k. Alike (normalRest f k r) (normalRest g k r)) place (rest-alike r (a + 1 + length (writeQuestion q) + 1) z (rest-at t (a + 1 + length (writeQuestion q)) (93 ∷ []) (writeRest r ++ z) (rest-at t (a + 1) (writeQuestion q) ((93 ∷ writeRest r) ++ z) inner))))
         where
-          inner : drop (a + 1) t ≡ write q ++ ((93 ∷ writeRest r) ++ z)
-          inner = rest-at t a (91 ∷ []) _ e ∙ append-assoc (write q) (93 ∷ writeRest r) z
+          inner : drop (a + 1) t ≡ writeQuestion q ++ ((93 ∷ writeRest r) ++ z)
+          inner = rest-at t a (91 ∷ []) _ e ∙ append-assoc (writeQuestion q) (93 ∷ writeRest r) z
 
-          place : a + 1 + length (write q) + 1 ≡ a + length (write q) + 2
+          place : a + 1 + length (writeQuestion q) + 1 ≡ a + length (writeQuestion q) + 2
           place = omega arith
       rest-alike (Rest.onward b s) a z e = crosses b (steps-alike s (a + length (writeSign b)) z (rest-at t a (writeSign b) (writeSteps s ++ z) (e ∙ append-assoc (writeSign b) (writeSteps s) z)))

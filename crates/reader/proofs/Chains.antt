@@ -8,12 +8,12 @@ use lib.ListN.{length, getD, drop, length-append}
 use lib.Dec.{lit<}
 use borrow.Author.Tests.{eqb-false}
 use Rattle.meaning.specs.Bytes.{Bytes}
-use Rattle.meaning.specs.Question.{Question, Conj, Part, write, writeConj, writePart}
-use Rattle.meaning.specs.Term.{Term, normal, normalConj, normalPart}
+use Rattle.meaning.specs.Question.{Question, Conj, OneUnit, writeQuestion, writeConj, writeUnit}
+use Rattle.meaning.specs.Term.{Term, normal, normalConj, normalUnit}
 use Rattle.meaning.specs.Entry.{root}
 use Rattle.reader.specs.declared.State.{State}
-use Rattle.reader.specs.Packed.{Place, placeOf}
-use Rattle.reader.specs.inner.Reading.{added, moved, byteAt, reach, reachConj, reachPart, Form, TreeOf, textOf, termOf, reachOf, PathEnds, ConjEnds, QuestionEnds, Follows, Made, MadeOf, slack, Ready, Goes, Reads, Chain, whole, item, sign, single, joined, grown, writeChain, Extends}
+use Rattle.reader.specs.Packed.{Place, wordPlace}
+use Rattle.reader.specs.inner.Reading.{added, moved, byteAt, reach, reachConj, reachUnit, Form, TreeOf, textOf, termOf, reachOf, PathEnds, ConjEnds, QuestionEnds, Follows, Made, MadeOf, slack, Ready, Goes, Reads, Chain, whole, item, sign, single, joined, grown, writeChain, Extends}
 use Rattle.reader.proofs.Text.{inside, head-at, cons-at}
 use Rattle.reader.proofs.Emit.{emit-or, emit-and}
 use Rattle.reader.proofs.Made.{left-over, after-byte, over-two, recast}
@@ -45,22 +45,22 @@ heads Chain.ands (i ∷ is) z f = record { bracket = eqb-false 38 91 refl; slash
 -- one item more
 module _ {t : Bytes} where
   single-made : (c : Chain) {s m : State} (i : TreeOf (item c)) → MadeOf (item c) t s m i → MadeOf (whole c) t s m (single c i)
-  unfolding write normal reach
+  unfolding writeQuestion normal reach
   single-made Chain.ors i m = m
   single-made Chain.ands i m = m
 
   joined-made : (c : Chain) (o s m : State) (q : TreeOf (whole c)) (i : TreeOf (item c)) → o .depth ≡ s .depth → byteAt t (s .at) ≡ sign c → MadeOf (whole c) t o s q → MadeOf (item c) t (moved s (s .at + 1)) m i
       → MadeOf (whole c) t o (added m (kindOf c) (s .top) (m .top)) (joined c q i)
-  unfolding write normal reach root
+  unfolding writeQuestion normal reach root
   joined-made Chain.ors o s m q i d b x y =
-      let n : s .at + 1 ≡ o .at + length (write q) + 1 = omega (arith, x .place) in
-      recast refl (ap (λ k. Term.or (normal placeOf (o .at) q) (normalConj placeOf k i)) n)
-      (subst (λ k. Made t o (added m 6 (s .top) (m .top)) (write q ++ (124 ∷ writeConj i)) (Term.or (normal placeOf (o .at) q) (normalConj placeOf (s .at + 1) i)) (λ z. reachConj k i (reach (o .depth) q z))) (sym d)
+      let n : s .at + 1 ≡ o .at + length (writeQuestion q) + 1 = omega (arith, x .place) in
+      recast refl (ap (λ k. Term.or (normal wordPlace (o .at) q) (normalConj wordPlace k i)) n)
+      (subst (λ k. Made t o (added m 6 (s .top) (m .top)) (writeQuestion q ++ (124 ∷ writeConj i)) (Term.or (normal wordPlace (o .at) q) (normalConj wordPlace (s .at + 1) i)) (λ z. reachConj k i (reach (o .depth) q z))) (sym d)
       (over-two 6 Term.or emit-or (λ n a b. refl) x (after-byte 124 b (lit< tt) y)))
   joined-made Chain.ands o s m q i d b x y =
       let n : s .at + 1 ≡ o .at + length (writeConj q) + 1 = omega (arith, x .place) in
-      recast refl (ap (λ k. Term.and (normalConj placeOf (o .at) q) (normalPart placeOf k i)) n)
-      (subst (λ k. Made t o (added m 7 (s .top) (m .top)) (writeConj q ++ (38 ∷ writePart i)) (Term.and (normalConj placeOf (o .at) q) (normalPart placeOf (s .at + 1) i)) (λ z. reachPart k i (reachConj (o .depth) q z))) (sym d)
+      recast refl (ap (λ k. Term.and (normalConj wordPlace (o .at) q) (normalUnit wordPlace k i)) n)
+      (subst (λ k. Made t o (added m 7 (s .top) (m .top)) (writeConj q ++ (38 ∷ writeUnit i)) (Term.and (normalConj wordPlace (o .at) q) (normalUnit wordPlace (s .at + 1) i)) (λ z. reachUnit k i (reachConj (o .depth) q z))) (sym d)
       (over-two 7 Term.and emit-and (λ n a b. refl) x (after-byte 38 b (lit< tt) y)))
 
   pub chain-none : (c : Chain) {s : State} → (byteAt t (s .at) ≡ sign c → ⊥) → s .at ≤ length t → Extends c t s s
@@ -121,7 +121,7 @@ spine-question (Question.either q i) = next Chain.ors q i (spine-question q)
 
 pub spine-conj : (q : Conj) → Spine Chain.ands q
 unfolding grown
-spine-conj (Conj.part i) = record { first = i; more = []; is = refl }
+spine-conj (Conj.unit i) = record { first = i; more = []; is = refl }
 spine-conj (Conj.both q i) = next Chain.ands q i (spine-conj q)
 
 spine : (c : Chain) (q : TreeOf (whole c)) → Spine c q
@@ -129,12 +129,12 @@ spine Chain.ors q = spine-question q
 spine Chain.ands q = spine-conj q
 
 joined-text : (c : Chain) (q : TreeOf (whole c)) (i : TreeOf (item c)) → textOf (whole c) (joined c q i) ≡ textOf (whole c) q ++ (sign c ∷ textOf (item c) i)
-unfolding write
+unfolding writeQuestion
 joined-text Chain.ors q i = refl
 joined-text Chain.ands q i = refl
 
 pub single-text : (c : Chain) (i : TreeOf (item c)) → textOf (whole c) (single c i) ≡ textOf (item c) i
-unfolding write
+unfolding writeQuestion
 single-text Chain.ors i = refl
 single-text Chain.ands i = refl
 

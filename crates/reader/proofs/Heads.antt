@@ -10,9 +10,9 @@ use native.Mathlib.Nat.{add-zero}
 use lib.Dec.{T, eqb, leb}
 use borrow.Author.Tests.{eq-eqb, ne-eqb, eqb-false}
 use Rattle.meaning.specs.Bytes.{Bytes, ascii}
-use Rattle.meaning.specs.Question.{Question, Conj, Part, Path, Steps, Rest, Begin, Sign, Move, Name, Quoted, isLetter, isNameByte, isName, all, writeBegin, writeSign, writeMove}
-use Rattle.meaning.specs.Question.{write, writeConj, writePart, writePath, writeSteps, writeRest}
-use Rattle.reader.specs.inner.Reading.{fronts, span, PathEnds}
+use Rattle.meaning.specs.Question.{Question, Conj, OneUnit, Steps, Rest, Begin, Sign, Move, Name, Quoted, isLetter, isNameByte, isName, all, writeBegin, writeSign, writeMove}
+use Rattle.meaning.specs.Question.{writeQuestion, writeConj, writeUnit, writeSteps, writeRest}
+use Rattle.reader.specs.inner.Reading.{fronts, span, Path, writePath, PathEnds}
 use Rattle.reader.proofs.Text.{fronts-split}
 
 -- WORDS
@@ -39,13 +39,13 @@ letter-name b e = rw e
 pub name-head : (w x : Bytes) → T (isName w) → isLetter (getD (w ++ x) 0 0) ≡ true
 unfolding isName
 name-head [] x h = absurd h
-name-head (b ∷ w) x h = holds (isLetter b) (both (isLetter b) (all isNameByte w) (both (isLetter b && all isNameByte w) (leb (length w) 63) h .0) .0)
+name-head (b ∷ w) x h = holds (isLetter b) (both (isLetter b) (all isNameByte w) (both (isLetter b && all isNameByte w) (leb (suc (length w)) 64) h .0) .0)
 
 pub name-all : (w : Bytes) → T (isName w) → T (all isNameByte w)
 unfolding isName all
 name-all [] h = tt
 name-all (b ∷ w) h =
-    let i = both (isLetter b) (all isNameByte w) (both (isLetter b && all isNameByte w) (leb (length w) 63) h .0) in
+    let i = both (isLetter b) (all isNameByte w) (both (isLetter b && all isNameByte w) (leb (suc (length w)) 64) h .0) in
     subst T (sym (ap (λ c. c && all isNameByte w) (letter-name b (holds (isLetter b) (i .0))))) (i .1)
 
 pub not-letter : (b c : ℕ) → isLetter b ≡ true → isLetter c ≡ false → b ≡ c → ⊥
@@ -84,7 +84,7 @@ no-fronts b f (y ∷ x) n = rw (ne-eqb y b n)
 
 -- what follows a name
 pub rest-head : (r : Rest) (z : Bytes) → PathEnds (getD z 0 0) → (isNameByte (getD (writeRest r ++ z) 0 0) ≡ false) × (getD (writeRest r ++ z) 0 0 ≡ 40 → ⊥)
-unfolding write
+unfolding writeQuestion
 rest-head Rest.end z f = (f .name, f .paren)
 rest-head (Rest.ends w) z f = (refl, eqb-false 47 40 refl)
 rest-head (Rest.bracket q r) z f = (refl, eqb-false 91 40 refl)
@@ -112,7 +112,7 @@ moveKind Move.star = StepKind.star
 moveKind (Move.name n) = StepKind.name
 
 pub move-class : (m : Move) (r : Rest) (z : Bytes) → stepClass (getD (writeSteps (Steps.step m r) ++ z) 0 0) ≡ moveKind m
-unfolding write
+unfolding writeQuestion
 move-class Move.dot r z = refl
 move-class Move.star r z = refl
 move-class (Move.name n) r z = letter-class (getD ((n .bytes ++ writeRest r) ++ z) 0 0) (rw append-assoc (name-head (n .bytes) (writeRest r ++ z) (n .is-name)))
@@ -127,13 +127,13 @@ step-view (Steps.step m r) z = subst (λ k. StepView k (Steps.step m r)) (sym (m
 
 -- a step's first byte is not b, and no test begins there
 steps-not : (s : Steps) (z : Bytes) (b : ℕ) → (b ≡ 46 → ⊥) → (b ≡ 42 → ⊥) → isLetter b ≡ false → getD (writeSteps s ++ z) 0 0 ≡ b → ⊥
-unfolding write
+unfolding writeQuestion
 steps-not (Steps.step Move.dot r) z b x y l e = x (sym e)
 steps-not (Steps.step Move.star r) z b x y l e = y (sym e)
 steps-not (Steps.step (Move.name n) r) z b x y l e = not-letter _ b (name-head (n .bytes) (writeRest r ++ z) (n .is-name)) l (rw append-assoc at e)
 
 steps-no-test : (s : Steps) (z : Bytes) → PathEnds (getD z 0 0) → (fronts (ascii "label()=") (writeSteps s ++ z) ≡ false) × (fronts (ascii "text()=") (writeSteps s ++ z) ≡ false)
-unfolding write fronts
+unfolding writeQuestion fronts
 steps-no-test (Steps.step Move.dot r) z f = (refl, refl)
 steps-no-test (Steps.step Move.star r) z f = (refl, refl)
 steps-no-test (Steps.step (Move.name n) r) z f =
@@ -142,81 +142,81 @@ steps-no-test (Steps.step (Move.name n) r) z f =
 
 -- PATHS
 pub data PathView : Bool → Path → Type 0 where
-  deep : (s : Steps) → PathView true (Path.from Begin.deep s)
-  plain : (s : Steps) → PathView false (Path.from Begin.plain s)
+  deep : (s : Steps) → PathView true (Begin.deep, s)
+  plain : (s : Steps) → PathView false (Begin.plain, s)
 
 abbrev pub isDeep : Begin → Bool
 isDeep Begin.plain = false
 isDeep Begin.deep = true
 
-pub begin-class : (b : Begin) (s : Steps) (z : Bytes) → fronts (ascii "//") (writePath (Path.from b s) ++ z) ≡ isDeep b
-unfolding write fronts
+pub begin-class : (b : Begin) (s : Steps) (z : Bytes) → fronts (ascii "//") ((writeBegin b ++ writeSteps s) ++ z) ≡ isDeep b
+unfolding fronts
 begin-class Begin.deep s z = refl
 begin-class Begin.plain s z = no-fronts 47 (47 ∷ []) (writeSteps s ++ z) (steps-not s z 47 (eqb-false 47 46 refl) (eqb-false 47 42 refl) refl)
 
-begin-view : (b : Begin) (s : Steps) → PathView (isDeep b) (Path.from b s)
+begin-view : (b : Begin) (s : Steps) → PathView (isDeep b) (b, s)
 begin-view Begin.deep s = PathView.deep s
 begin-view Begin.plain s = PathView.plain s
 
 pub path-view : (p : Path) (z : Bytes) → PathView (fronts (ascii "//") (writePath p ++ z)) p
-path-view (Path.from b s) z = subst (λ k. PathView k (Path.from b s)) (sym (begin-class b s z)) (begin-view b s)
+path-view p z = subst (λ k. PathView k p) (sym (begin-class (p .0) (p .1) z)) (begin-view (p .0) (p .1))
 
 -- UNITS
-pub data PartKind : Type 0 where
-  deny group label text path : PartKind
+pub data UnitKind : Type 0 where
+  deny group label text path : UnitKind
 
-abbrev pub partClass : ℕ → Bool → Bool → PartKind
-partClass b isLabel isText = cond (eqb b 33) PartKind.deny (cond (eqb b 40) PartKind.group (cond isLabel PartKind.label (cond isText PartKind.text PartKind.path)))
+abbrev pub unitClass : ℕ → Bool → Bool → UnitKind
+unitClass b isLabel isText = cond (eqb b 33) UnitKind.deny (cond (eqb b 40) UnitKind.group (cond isLabel UnitKind.label (cond isText UnitKind.text UnitKind.path)))
 
-abbrev pub partClassOf : Bytes → PartKind
-partClassOf x = partClass (getD x 0 0) (fronts (ascii "label()=") x) (fronts (ascii "text()=") x)
+abbrev pub unitClassOf : Bytes → UnitKind
+unitClassOf x = unitClass (getD x 0 0) (fronts (ascii "label()=") x) (fronts (ascii "text()=") x)
 
-pub data PartView : PartKind → Part → Type 0 where
-  deny : (p : Part) → PartView PartKind.deny (Part.deny p)
-  group : (q : Question) → PartView PartKind.group (Part.group q)
-  label : (w : Quoted) → PartView PartKind.label (Part.label w)
-  text : (w : Quoted) → PartView PartKind.text (Part.text w)
-  path : (p : Path) → PartView PartKind.path (Part.path p)
+pub data UnitView : UnitKind → OneUnit → Type 0 where
+  deny : (p : OneUnit) → UnitView UnitKind.deny (OneUnit.deny p)
+  group : (q : Question) → UnitView UnitKind.group (OneUnit.group q)
+  label : (w : Quoted) → UnitView UnitKind.label (OneUnit.label w)
+  text : (w : Quoted) → UnitView UnitKind.text (OneUnit.text w)
+  path : (b : Begin) (s : Steps) → UnitView UnitKind.path (OneUnit.path b s)
 
-pub path-class : (p : Path) (z : Bytes) → PathEnds (getD z 0 0) → partClassOf (writePath p ++ z) ≡ PartKind.path
-unfolding write fronts
-path-class (Path.from Begin.deep s) z f = refl
-path-class (Path.from Begin.plain s) z f =
+pub path-class : (b : Begin) (s : Steps) (z : Bytes) → PathEnds (getD z 0 0) → unitClassOf ((writeBegin b ++ writeSteps s) ++ z) ≡ UnitKind.path
+unfolding writeQuestion fronts
+path-class Begin.deep s z f = refl
+path-class Begin.plain s z f =
     let h = steps-no-test s z f in
     rw (ne-eqb _ 33 (steps-not s z 33 (eqb-false 33 46 refl) (eqb-false 33 42 refl) refl), ne-eqb _ 40 (steps-not s z 40 (eqb-false 40 46 refl) (eqb-false 40 42 refl) refl), h .0, h .1)
 
-abbrev partKind : Part → PartKind
-partKind (Part.deny p) = PartKind.deny
-partKind (Part.group q) = PartKind.group
-partKind (Part.label w) = PartKind.label
-partKind (Part.text w) = PartKind.text
-partKind (Part.path p) = PartKind.path
+abbrev unitKind : OneUnit → UnitKind
+unitKind (OneUnit.deny p) = UnitKind.deny
+unitKind (OneUnit.group q) = UnitKind.group
+unitKind (OneUnit.label w) = UnitKind.label
+unitKind (OneUnit.text w) = UnitKind.text
+unitKind (OneUnit.path b s) = UnitKind.path
 
-part-class : (p : Part) (z : Bytes) → PathEnds (getD z 0 0) → partClassOf (writePart p ++ z) ≡ partKind p
-unfolding write fronts
-part-class (Part.deny p) z f = refl
-part-class (Part.group q) z f = refl
-part-class (Part.label w) z f = refl
-part-class (Part.text w) z f = refl
-part-class (Part.path p) z f = path-class p z f
+unit-class : (p : OneUnit) (z : Bytes) → PathEnds (getD z 0 0) → unitClassOf (writeUnit p ++ z) ≡ unitKind p
+unfolding writeQuestion fronts
+unit-class (OneUnit.deny p) z f = refl
+unit-class (OneUnit.group q) z f = refl
+unit-class (OneUnit.label w) z f = refl
+unit-class (OneUnit.text w) z f = refl
+unit-class (OneUnit.path b s) z f = path-class b s z f
 
-own-view : (p : Part) → PartView (partKind p) p
-own-view (Part.deny p) = PartView.deny p
-own-view (Part.group q) = PartView.group q
-own-view (Part.label w) = PartView.label w
-own-view (Part.text w) = PartView.text w
-own-view (Part.path p) = PartView.path p
+own-view : (p : OneUnit) → UnitView (unitKind p) p
+own-view (OneUnit.deny p) = UnitView.deny p
+own-view (OneUnit.group q) = UnitView.group q
+own-view (OneUnit.label w) = UnitView.label w
+own-view (OneUnit.text w) = UnitView.text w
+own-view (OneUnit.path b s) = UnitView.path b s
 
-pub part-view : (p : Part) (z : Bytes) → PathEnds (getD z 0 0) → PartView (partClassOf (writePart p ++ z)) p
-part-view p z f = subst (λ k. PartView k p) (sym (part-class p z f)) (own-view p)
+pub unit-view : (p : OneUnit) (z : Bytes) → PathEnds (getD z 0 0) → UnitView (unitClassOf (writeUnit p ++ z)) p
+unit-view p z f = subst (λ k. UnitView k p) (sym (unit-class p z f)) (own-view p)
 
 -- a unit of a form is classed by it
-pub unit-class : (p : Part) (z : Bytes) → PathEnds (getD z 0 0) → (k : PartKind) → PartView k p → partClassOf (writePart p ++ z) ≡ k
-unit-class p z f k (PartView.deny u) = part-class (Part.deny u) z f
-unit-class p z f k (PartView.group q) = part-class (Part.group q) z f
-unit-class p z f k (PartView.label w) = part-class (Part.label w) z f
-unit-class p z f k (PartView.text w) = part-class (Part.text w) z f
-unit-class p z f k (PartView.path q) = part-class (Part.path q) z f
+pub class-of-view : (p : OneUnit) (z : Bytes) → PathEnds (getD z 0 0) → (k : UnitKind) → UnitView k p → unitClassOf (writeUnit p ++ z) ≡ k
+class-of-view p z f k (UnitView.deny u) = unit-class (OneUnit.deny u) z f
+class-of-view p z f k (UnitView.group q) = unit-class (OneUnit.group q) z f
+class-of-view p z f k (UnitView.label w) = unit-class (OneUnit.label w) z f
+class-of-view p z f k (UnitView.text w) = unit-class (OneUnit.text w) z f
+class-of-view p z f k (UnitView.path b s) = unit-class (OneUnit.path b s) z f
 
 -- RESTS
 pub data RestKind : Type 0 where
@@ -237,7 +237,7 @@ pub data RestView : RestKind → Rest → Type 0 where
 
 -- what follows is classed by its form
 pub view-class : (r : Rest) (z : Bytes) → PathEnds (getD z 0 0) → (k : RestKind) → RestView k r → restClassOf (writeRest r ++ z) ≡ k
-unfolding write fronts
+unfolding writeQuestion fronts
 view-class r z f k RestView.end = rw (ne-eqb _ 91 (f .bracket), ne-eqb _ 47 (f .slash))
 view-class r z f k (RestView.ends w) = refl
 view-class r z f k (RestView.bracket q u) = refl

@@ -34,7 +34,7 @@ module _ {t : Bytes} where
   after-byte {s} b e pos m = after (b ∷ []) 1 refl (cons-at t (s .at) b e pos) m
 
   -- an opening bracket before a form
-  pub after-open : {s r : State} {w : Bytes} {a : Term Place} {k : ℕ → ℕ} (b : ℕ) → byteAt t (s .at) ≡ b → 0 < b → Made t (deepened s) r w a k → Made t s r (b ∷ w) a (λ x. k (max x (s .depth + 1)))
+  pub after-open : {s r : State} {w : Bytes} {a : Term Place} {k : ℕ → ℕ} (b : ℕ) → byteAt t (s .at) ≡ b → 0 < b → Made t (deepened s (s .at + 1)) r w a k → Made t s r (b ∷ w) a (λ x. k (max x (s .depth + 1)))
   after-open {s} {r} {w} b e pos m = record {
     text = cons-at t (s .at) b e pos ∙ ap (λ x. b ∷ x) (m .text);
     place = omega (arith, m .place);

@@ -2,9 +2,9 @@
 use Prim.Native.Nat.{ℕ, zero, suc, _+_, _≤_, max}
 use native.Mathlib.Omega.{arith}
 use mathlib.Core.Path.{_≡_, refl, sym, ap, _∙_}
-use Rattle.meaning.specs.Question.{Question, Conj, Part, Path, Steps, Rest}
-use Rattle.reader.specs.Nesting.{nesting, nestingConj, nestingPart, nestingPath, nestingSteps, nestingRest}
-use Rattle.reader.specs.inner.Reading.{reach, reachConj, reachPart, reachPath, reachSteps, reachRest}
+use Rattle.meaning.specs.Question.{Question, Conj, OneUnit, Steps, Rest}
+use Rattle.reader.specs.Nesting.{nesting, nestingConj, nestingUnit, nestingSteps, nestingRest}
+use Rattle.reader.specs.inner.Reading.{reach, reachConj, reachUnit, reachSteps, reachRest}
 
 -- a bracket around what nests n deep
 bracketed : (o m n k : ℕ) → o ≤ m → k ≡ max (max m (o + 1)) (o + 1 + n) → k ≡ max m (o + suc n)
@@ -21,18 +21,15 @@ mutual
   reach-question (Question.either q c) o m h = two o m (nesting q) (nestingConj c) (reach o q m) (reachConj o c (reach o q m)) h (reach-question q o m h) (λ i. reach-conj c o (reach o q m) i)
 
   reach-conj : (c : Conj) (o m : ℕ) → o ≤ m → reachConj o c m ≡ max m (o + nestingConj c)
-  reach-conj (Conj.part p) o m h = reach-part p o m h
-  reach-conj (Conj.both c p) o m h = two o m (nestingConj c) (nestingPart p) (reachConj o c m) (reachPart o p (reachConj o c m)) h (reach-conj c o m h) (λ i. reach-part p o (reachConj o c m) i)
+  reach-conj (Conj.unit p) o m h = reach-unit p o m h
+  reach-conj (Conj.both c p) o m h = two o m (nestingConj c) (nestingUnit p) (reachConj o c m) (reachUnit o p (reachConj o c m)) h (reach-conj c o m h) (λ i. reach-unit p o (reachConj o c m) i)
 
-  reach-part : (p : Part) (o m : ℕ) → o ≤ m → reachPart o p m ≡ max m (o + nestingPart p)
-  reach-part (Part.deny p) o m h = reach-part p o m h
-  reach-part (Part.group q) o m h = bracketed o m (nesting q) (reach (o + 1) q (max m (o + 1))) h (reach-question q (o + 1) (max m (o + 1)) (omega arith))
-  reach-part (Part.label w) o m h = omega arith
-  reach-part (Part.text w) o m h = omega arith
-  reach-part (Part.path p) o m h = reach-path p o m h
-
-  reach-path : (p : Path) (o m : ℕ) → o ≤ m → reachPath o p m ≡ max m (o + nestingPath p)
-  reach-path (Path.from b s) o m h = reach-steps s o m h
+  reach-unit : (p : OneUnit) (o m : ℕ) → o ≤ m → reachUnit o p m ≡ max m (o + nestingUnit p)
+  reach-unit (OneUnit.deny p) o m h = reach-unit p o m h
+  reach-unit (OneUnit.group q) o m h = bracketed o m (nesting q) (reach (o + 1) q (max m (o + 1))) h (reach-question q (o + 1) (max m (o + 1)) (omega arith))
+  reach-unit (OneUnit.label w) o m h = omega arith
+  reach-unit (OneUnit.text w) o m h = omega arith
+  reach-unit (OneUnit.path b s) o m h = reach-steps s o m h
 
   reach-steps : (s : Steps) (o m : ℕ) → o ≤ m → reachSteps o s m ≡ max m (o + nestingSteps s)
   reach-steps (Steps.step x r) o m h = reach-rest r o m h

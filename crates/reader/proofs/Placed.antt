@@ -7,7 +7,7 @@ use mathlib.Core.List.{List, [], _∷_, _++_, append-nil, map}
 use lib.ListN.{length, getD, drop, take, replicate, length-append, length-drop, length-map, List·getD-append, List·getD-map}
 use lib.Seq.{take-append-seam}
 use Rattle.meaning.specs.Bytes.{Bytes, word}
-use Rattle.meaning.specs.Question.{Question, write}
+use Rattle.meaning.specs.Question.{Question, writeQuestion}
 use Rattle.meaning.specs.Term.{normal}
 use Rattle.meaning.specs.Entry.{Entry, flat, entries, Points, Earlier}
 use Rattle.meaning.specs.Reply.{tabulated}
@@ -15,7 +15,7 @@ use Rattle.meaning.proofs.Entry.{flat-earlier, flat-length}
 use Rattle.question.specs.declared.List as L
 use Rattle.reader.specs.declared.Answer.{Answer}
 use Rattle.question.specs.Listed.{Kind, kindOf, EntryRule, Keeps, entryOf, listed}
-use Rattle.reader.specs.Packed.{Place, placeOf, placedEntries, kindCode, leftOf, rightOf, padded, packed}
+use Rattle.reader.specs.Packed.{Place, wordPlace, placedEntries, kindCode, leftOf, rightOf, padded, packed}
 use Rattle.reader.proofs.Pack.{WordSmall, AllWordsSmall}
 use Rattle.reader.proofs.Alike.{AlikeEntry, AlikeLists, flat-alike, normal-alike}
 
@@ -25,12 +25,12 @@ pub record Stands (t : Bytes) (p : Place) (w : Bytes) : Type 0 where
   pub inside : p .0 + p .1 ≤ length t
   pub is : word t (p .0) (p .1) ≡ w
 
-placed : (t : Bytes) (a : ℕ) (w z : Bytes) → length w ≤ 64 → 0 < length (w ++ z) → drop a t ≡ w ++ z → Stands t (placeOf a w) w
+placed : (t : Bytes) (a : ℕ) (w z : Bytes) → length w ≤ 64 → 0 < length (w ++ z) → drop a t ≡ w ++ z → Stands t (wordPlace a w) w
 placed t a w z h k e = record { small = h; inside = omega (arith, ap length e, length-append w z, length-drop a t); is = ap (take (length w)) e ∙ take-append-seam w z }
 
 -- the reader's entries and the question's are alike
-alike : (t : Bytes) (q : Question) → write q ≡ t → AlikeLists (Stands t) (placedEntries q) (entries q)
-alike t q e = flat-alike (Stands t) (normal-alike (Stands t) placeOf (λ a w. w) t (placed t) q 0 [] (sym (append-nil (write q) ∙ e))) 0
+alike : (t : Bytes) (q : Question) → writeQuestion q ≡ t → AlikeLists (Stands t) (placedEntries q) (entries q)
+alike t q e = flat-alike (Stands t) (normal-alike (Stands t) wordPlace (λ a w. w) t (placed t) q 0 [] (sym (append-nil (writeQuestion q) ∙ e))) 0
 
 small-words : (t : Bytes) {es : List (Entry Place)} {ys : List (Entry Bytes)} → length t ≤ 255 → AlikeLists (Stands t) es ys → AllWordsSmall es
 small-words t h AlikeLists.none = tt
@@ -47,7 +47,7 @@ small-words t h (AlikeLists.more e a) = (one e, small-words t h a)
     one (AlikeEntry.and p q) = tt
     one (AlikeEntry.not q) = tt
 
-pub words-small : (t : Bytes) (q : Question) → length t ≤ 255 → write q ≡ t → AllWordsSmall (placedEntries q)
+pub words-small : (t : Bytes) (q : Question) → length t ≤ 255 → writeQuestion q ≡ t → AllWordsSmall (placedEntries q)
 words-small t q h e = small-words t h (alike t q e)
 
 -- ENTRY BY ENTRY
@@ -99,14 +99,14 @@ tabulated-is [] z k f h = refl
 tabulated-is {X} (y ∷ ys) z k f h = ap₂ (λ a b. a ∷ b) (ap f (sym (zero-add k)) ∙ h 0 (omega arith)) (tabulated-is ys z (suc k) f (λ i j. ap f (add-suc i k ∙ sym (suc-add i k)) ∙ h (suc i) (omega arith)))
 
 -- the packed list, as the rules and the entries see it
-module _ (t : Bytes) (q : Question) (e : write q ≡ t) (few : length (placedEntries q) ≤ 32) where
+module _ (t : Bytes) (q : Question) (e : writeQuestion q ≡ t) (few : length (placedEntries q) ≤ 32) where
   pub packed-keeps : Keeps (packed (placedEntries q)) t
   unfolding packed
   packed-keeps = record {
-    some-entry = omega (arith, flat-length (normal placeOf 0 q) 0);
+    some-entry = omega (arith, flat-length (normal wordPlace 0 q) 0);
     most = few;
     each = λ i h. rw (padded-at kindCode refl (placedEntries q) i h, padded-at leftOf refl (placedEntries q) i h, padded-at rightOf refl (placedEntries q) i h)
-        (entry-keeps t i (alike-at (alike t q e) i h) (rw add-zero at (earlier-at 0 (placedEntries q) (flat-earlier (normal placeOf 0 q) 0) i h)));
+        (entry-keeps t i (alike-at (alike t q e) i h) (rw add-zero at (earlier-at 0 (placedEntries q) (flat-earlier (normal wordPlace 0 q) 0) i h)));
   }
 
   pub packed-listed : listed (packed (placedEntries q)) t ≡ entries q

@@ -31,7 +31,7 @@ few-read g {t} {s} {m} y a = few-goes {s = s} y (small g) (a .goes)
     small : (g : Form) → slack g ≤ 1
     small Form.question = omega arith
     small Form.conj = omega arith
-    small Form.part = omega arith
+    small Form.unit = omega arith
     small Form.path = omega arith
     small Form.steps = omega arith
     small Form.rest = omega arith
@@ -53,7 +53,7 @@ call-bytes p q {t} {s} f n m pos e y b h =
     (omega arith, record { small = y .small; inside = omega arith; few = omega (arith, y .few); level = omega (arith, y .level) })
 
 -- past an opening bracket
-pub call-open : (p q : ℕ) {t : Bytes} {s : State} {k : ℕ} (b : ℕ) → size p t s ≡ k → Ready t s → byteAt t (s .at) ≡ b → 0 < b → q < 7 → Call q t (deepened s) k
+pub call-open : (p q : ℕ) {t : Bytes} {s : State} {k : ℕ} (b : ℕ) → size p t s ≡ k → Ready t s → byteAt t (s .at) ≡ b → 0 < b → q < 7 → Call q t (deepened s (s .at + 1)) k
 call-open p q {t} {s} b e y at-b pos h =
     let i : s .at < length t = inside t (s .at) b at-b pos in
     (omega arith, record { small = y .small; inside = omega arith; few = omega (arith, y .few); level = omega (arith, y .level) })
@@ -69,7 +69,7 @@ call-again p q {t} {s} b kind x y e d at-b pos g h =
     (omega (arith, g), record { small = d .small; inside = g .inside; few = omega (arith, d .few, g .few); level = omega (arith, d .level, g .level, g .onward) })
 
 -- after a bracket
-pub call-shut : (p q : ℕ) {t : Bytes} {s m : State} {k : ℕ} (b b′ : ℕ) → size p t s ≡ k → Ready t s → byteAt t (s .at) ≡ b → 0 < b → 0 < b′ → Goes t (deepened s) m 0 → q < 7 → Call q t (shutBy t m b′ (s .depth)) k
+pub call-shut : (p q : ℕ) {t : Bytes} {s m : State} {k : ℕ} (b b′ : ℕ) → size p t s ≡ k → Ready t s → byteAt t (s .at) ≡ b → 0 < b → 0 < b′ → Goes t (deepened s (s .at + 1)) m 0 → q < 7 → Call q t (shutBy t m b′ (s .depth)) k
 call-shut p q {t} {s} {m} b b′ e y at-b pos pos′ g h =
     let i : s .at < length t = inside t (s .at) b at-b pos in
     let c = shut-at t m b′ (s .depth) pos′ (g .inside) in
@@ -85,5 +85,5 @@ call-name p q t s e y l h =
 pub quoted-ready : {t : Bytes} {s : State} → Ready t s → (length t ≤ 255) × ((s .at ≤ length t) × (s .list .count < 2000))
 quoted-ready y = (y .small, (y .inside, omega (arith, y .few, y .inside, y .small)))
 
-pub deeper-ready : {t : Bytes} {s : State} → Ready t s → (s .at ≤ 255) × (s .depth ≤ 255)
-deeper-ready y = (omega (arith, y .small, y .inside), omega (arith, y .small, y .inside, y .level))
+pub shallow : {t : Bytes} {s : State} → Ready t s → s .depth ≤ 255
+shallow y = omega (arith, y .small, y .inside, y .level)

@@ -8,11 +8,11 @@ use lib.Seq.{take-append-seam}
 use lib.Dec.{T, T-prop}
 use borrow.Author.Tests.{eqb-false}
 use Rattle.meaning.specs.Bytes.{Bytes, ascii}
-use Rattle.meaning.specs.Question.{Question, Conj, Part, Path, Steps, Rest, Begin, Sign, Move, Name, Quoted, isNameByte, isQuotable, isName, isQuoted, all, writeQuoted}
-use Rattle.meaning.specs.Question.{write, writeConj, writePart, writePath, writeSteps, writeRest}
-use Rattle.reader.specs.inner.Reading.{fronts, span, Form, TreeOf, textOf, PathEnds, ConjEnds, QuestionEnds, Follows, Chain, whole, item, sign, single, joined, grown, writeChain}
+use Rattle.meaning.specs.Question.{Question, Conj, OneUnit, Steps, Rest, Begin, Sign, Move, Name, Quoted, isNameByte, isQuotable, isName, isQuoted, all, writeQuoted}
+use Rattle.meaning.specs.Question.{writeQuestion, writeConj, writeUnit, writeBegin, writeSteps, writeRest}
+use Rattle.reader.specs.inner.Reading.{fronts, span, Path, writePath, Form, TreeOf, textOf, PathEnds, ConjEnds, QuestionEnds, Follows, Chain, whole, item, sign, single, joined, grown, writeChain}
 use Rattle.reader.specs.Promise.{WriteOnce}
-use Rattle.reader.proofs.Heads.{span-all, name-all, rest-head, stepClass, StepKind, StepView, step-view, PathView, path-view, PartKind, partClassOf, PartView, part-view, RestKind, restClassOf, RestView, rest-view, unit-class, view-class, begin-class, move-class}
+use Rattle.reader.proofs.Heads.{span-all, name-all, rest-head, stepClass, StepKind, StepView, step-view, PathView, path-view, UnitKind, unitClassOf, UnitView, unit-view, RestKind, restClassOf, RestView, rest-view, class-of-view, view-class, begin-class, move-class}
 use Rattle.reader.proofs.Chains.{Spine, spine-question, spine-conj, next, heads, grown-text, single-text}
 use Rattle.reader.proofs.Words.{quoted-all}
 use Rattle.reader.proofs.Units.{by-paren, by-bracket}
@@ -88,8 +88,8 @@ unfolding next
 more-items c q i a s = record { spine = next c q i (a .spine); first = a .first; more = all-snoc c (a .spine .more) i (a .more) s }
 
 -- THE FORMS. The other tree has the same first bytes, so it has the same form
-other-part : (d : Part) (x y : Bytes) (k : PartKind) → PathEnds (getD y 0 0) → x ≡ writePart d ++ y → partClassOf x ≡ k → PartView k d
-other-part d x y k g e c = subst (λ k. PartView k d) (ap partClassOf (sym e) ∙ c) (part-view d y g)
+other-unit : (d : OneUnit) (x y : Bytes) (k : UnitKind) → PathEnds (getD y 0 0) → x ≡ writeUnit d ++ y → unitClassOf x ≡ k → UnitView k d
+other-unit d x y k g e c = subst (λ k. UnitView k d) (ap unitClassOf (sym e) ∙ c) (unit-view d y g)
 
 other-path : (d : Path) (x y : Bytes) (k : Bool) → x ≡ writePath d ++ y → fronts (ascii "//") x ≡ k → PathView k d
 other-path d x y k e c = subst (λ k. PathView k d) (ap (fronts (ascii "//")) (sym e) ∙ c) (path-view d y)
@@ -101,46 +101,46 @@ other-rest : (d : Rest) (x y : Bytes) (k : RestKind) → PathEnds (getD y 0 0) �
 other-rest d x y k g e c = subst (λ k. RestView k d) (ap restClassOf (sym e) ∙ c) (rest-view d y g)
 
 module _ (z y : Bytes) (f : PathEnds (getD z 0 0)) (g : PathEnds (getD y 0 0)) where
-  deny-same : (u : Part) → Same Form.part u → (d : Part) → PartView PartKind.deny d → writePart (Part.deny u) ++ z ≡ writePart d ++ y → (Part.deny u ≡ d) × (z ≡ y)
-  unfolding write
-  deny-same u ih d (PartView.deny v) e = let h = ih v z y f g (ap (drop 1) e) in (ap Part.deny (h .0), h .1)
+  deny-same : (u : OneUnit) → Same Form.unit u → (d : OneUnit) → UnitView UnitKind.deny d → writeUnit (OneUnit.deny u) ++ z ≡ writeUnit d ++ y → (OneUnit.deny u ≡ d) × (z ≡ y)
+  unfolding writeQuestion
+  deny-same u ih d (UnitView.deny v) e = let h = ih v z y f g (ap (drop 1) e) in (ap OneUnit.deny (h .0), h .1)
 
-  group-same : (u : Question) → Same Form.question u → (d : Part) → PartView PartKind.group d → writePart (Part.group u) ++ z ≡ writePart d ++ y → (Part.group u ≡ d) × (z ≡ y)
-  unfolding write
-  group-same u ih d (PartView.group v) e =
-      let h = ih v (41 ∷ z) (41 ∷ y) by-paren by-paren (sym (append-assoc (write u) (41 ∷ []) z) ∙ ap (drop 1) e ∙ append-assoc (write v) (41 ∷ []) y) in
-      (ap Part.group (h .0), ap (drop 1) (h .1))
+  group-same : (u : Question) → Same Form.question u → (d : OneUnit) → UnitView UnitKind.group d → writeUnit (OneUnit.group u) ++ z ≡ writeUnit d ++ y → (OneUnit.group u ≡ d) × (z ≡ y)
+  unfolding writeQuestion
+  group-same u ih d (UnitView.group v) e =
+      let h = ih v (41 ∷ z) (41 ∷ y) by-paren by-paren (sym (append-assoc (writeQuestion u) (41 ∷ []) z) ∙ ap (drop 1) e ∙ append-assoc (writeQuestion v) (41 ∷ []) y) in
+      (ap OneUnit.group (h .0), ap (drop 1) (h .1))
 
-  label-same : (w : Quoted) (d : Part) → PartView PartKind.label d → writePart (Part.label w) ++ z ≡ writePart d ++ y → (Part.label w ≡ d) × (z ≡ y)
-  unfolding write
-  label-same w d (PartView.label v) e = let h = same-quote w v z y (ap (drop 8) e) in (ap Part.label (h .0), h .1)
+  label-same : (w : Quoted) (d : OneUnit) → UnitView UnitKind.label d → writeUnit (OneUnit.label w) ++ z ≡ writeUnit d ++ y → (OneUnit.label w ≡ d) × (z ≡ y)
+  unfolding writeQuestion
+  label-same w d (UnitView.label v) e = let h = same-quote w v z y (ap (drop 8) e) in (ap OneUnit.label (h .0), h .1)
 
-  text-same : (w : Quoted) (d : Part) → PartView PartKind.text d → writePart (Part.text w) ++ z ≡ writePart d ++ y → (Part.text w ≡ d) × (z ≡ y)
-  unfolding write
-  text-same w d (PartView.text v) e = let h = same-quote w v z y (ap (drop 7) e) in (ap Part.text (h .0), h .1)
+  text-same : (w : Quoted) (d : OneUnit) → UnitView UnitKind.text d → writeUnit (OneUnit.text w) ++ z ≡ writeUnit d ++ y → (OneUnit.text w ≡ d) × (z ≡ y)
+  unfolding writeQuestion
+  text-same w d (UnitView.text v) e = let h = same-quote w v z y (ap (drop 7) e) in (ap OneUnit.text (h .0), h .1)
 
-  path-same : (u : Path) → Same Form.path u → (d : Part) → PartView PartKind.path d → writePart (Part.path u) ++ z ≡ writePart d ++ y → (Part.path u ≡ d) × (z ≡ y)
-  unfolding write
-  path-same u ih d (PartView.path v) e = let h = ih v z y f g e in (ap Part.path (h .0), h .1)
+  path-same : (b : Begin) (u : Steps) → Same Form.path (b, u) → (d : OneUnit) → UnitView UnitKind.path d → writeUnit (OneUnit.path b u) ++ z ≡ writeUnit d ++ y → (OneUnit.path b u ≡ d) × (z ≡ y)
+  unfolding writeQuestion
+  path-same b u ih d (UnitView.path c v) e = let h = ih (c, v) z y f g e in (ap (λ p. OneUnit.path (p .0) (p .1)) (h .0), h .1)
 
-  deep-same : (u : Steps) → Same Form.steps u → (d : Path) → PathView true d → writePath (Path.from Begin.deep u) ++ z ≡ writePath d ++ y → (Path.from Begin.deep u ≡ d) × (z ≡ y)
-  unfolding write
-  deep-same u ih d (PathView.deep v) e = let h = ih v z y f g (ap (drop 2) e) in (ap (Path.from Begin.deep) (h .0), h .1)
+  deep-same : (u : Steps) → Same Form.steps u → (d : Path) → PathView true d → writePath (Begin.deep, u) ++ z ≡ writePath d ++ y → ((Begin.deep, u) ≡ d) × (z ≡ y)
+  unfolding writeQuestion
+  deep-same u ih d (PathView.deep v) e = let h = ih v z y f g (ap (drop 2) e) in (ap (λ x. (Begin.deep, x)) (h .0), h .1)
 
-  plain-same : (u : Steps) → Same Form.steps u → (d : Path) → PathView false d → writePath (Path.from Begin.plain u) ++ z ≡ writePath d ++ y → (Path.from Begin.plain u ≡ d) × (z ≡ y)
-  unfolding write
-  plain-same u ih d (PathView.plain v) e = let h = ih v z y f g e in (ap (Path.from Begin.plain) (h .0), h .1)
+  plain-same : (u : Steps) → Same Form.steps u → (d : Path) → PathView false d → writePath (Begin.plain, u) ++ z ≡ writePath d ++ y → ((Begin.plain, u) ≡ d) × (z ≡ y)
+  unfolding writeQuestion
+  plain-same u ih d (PathView.plain v) e = let h = ih v z y f g e in (ap (λ x. (Begin.plain, x)) (h .0), h .1)
 
   dot-same : (u : Rest) → Same Form.rest u → (d : Steps) → StepView StepKind.dot d → writeSteps (Steps.step Move.dot u) ++ z ≡ writeSteps d ++ y → (Steps.step Move.dot u ≡ d) × (z ≡ y)
-  unfolding write
+  unfolding writeQuestion
   dot-same u ih d (StepView.dot v) e = let h = ih v z y f g (ap (drop 1) e) in (ap (Steps.step Move.dot) (h .0), h .1)
 
   star-same : (u : Rest) → Same Form.rest u → (d : Steps) → StepView StepKind.star d → writeSteps (Steps.step Move.star u) ++ z ≡ writeSteps d ++ y → (Steps.step Move.star u ≡ d) × (z ≡ y)
-  unfolding write
+  unfolding writeQuestion
   star-same u ih d (StepView.star v) e = let h = ih v z y f g (ap (drop 1) e) in (ap (Steps.step Move.star) (h .0), h .1)
 
   name-same : (n : Name) (u : Rest) → Same Form.rest u → (d : Steps) → StepView StepKind.name d → writeSteps (Steps.step (Move.name n) u) ++ z ≡ writeSteps d ++ y → (Steps.step (Move.name n) u ≡ d) × (z ≡ y)
-  unfolding write
+  unfolding writeQuestion
   name-same n u ih d (StepView.name m v) e =
       let w = same-word isNameByte (n .bytes) (m .bytes) (writeRest u ++ z) (writeRest v ++ y) (name-all (n .bytes) (n .is-name)) (name-all (m .bytes) (m .is-name)) (rest-head u z f .0) (rest-head v y g .0)
       (sym (append-assoc (n .bytes) (writeRest u) z) ∙ e ∙ append-assoc (m .bytes) (writeRest v) y) in
@@ -148,30 +148,30 @@ module _ (z y : Bytes) (f : PathEnds (getD z 0 0)) (g : PathEnds (getD y 0 0)) w
       (ap₂ (λ a b. Steps.step (Move.name a) b) (same-name n m (w .0)) (h .0), h .1)
 
   end-same : (d : Rest) → RestView RestKind.end d → writeRest Rest.end ++ z ≡ writeRest d ++ y → (Rest.end ≡ d) × (z ≡ y)
-  unfolding write
+  unfolding writeQuestion
   end-same d RestView.end e = (refl, e)
 
   ends-same : (w : Quoted) (d : Rest) → RestView RestKind.ends d → writeRest (Rest.ends w) ++ z ≡ writeRest d ++ y → (Rest.ends w ≡ d) × (z ≡ y)
-  unfolding write
+  unfolding writeQuestion
   ends-same w d (RestView.ends v) e = let h = same-quote w v z y (ap (drop 8) e) in (ap Rest.ends (h .0), h .1)
 
   bracket-same : (q : Question) (u : Rest) → Same Form.question q → Same Form.rest u → (d : Rest) → RestView RestKind.bracket d → writeRest (Rest.bracket q u) ++ z ≡ writeRest d ++ y → (Rest.bracket q u ≡ d) × (z ≡ y)
-  unfolding write
+  unfolding writeQuestion
   bracket-same q u ih ih′ d (RestView.bracket p v) e =
-      let h = ih p (93 ∷ (writeRest u ++ z)) (93 ∷ (writeRest v ++ y)) by-bracket by-bracket (sym (append-assoc (write q) (93 ∷ writeRest u) z) ∙ ap (drop 1) e ∙ append-assoc (write p) (93 ∷ writeRest v) y) in
+      let h = ih p (93 ∷ (writeRest u ++ z)) (93 ∷ (writeRest v ++ y)) by-bracket by-bracket (sym (append-assoc (writeQuestion q) (93 ∷ writeRest u) z) ∙ ap (drop 1) e ∙ append-assoc (writeQuestion p) (93 ∷ writeRest v) y) in
       let k = ih′ v z y f g (ap (drop 1) (h .1)) in
       (ap₂ Rest.bracket (h .0) (k .0), k .1)
 
   slash-same : (u : Steps) → Same Form.steps u → (d : Rest) → RestView RestKind.slash d → writeRest (Rest.onward Sign.slash u) ++ z ≡ writeRest d ++ y → (Rest.onward Sign.slash u ≡ d) × (z ≡ y)
-  unfolding write
+  unfolding writeQuestion
   slash-same u ih d (RestView.slash v) e = let h = ih v z y f g (ap (drop 1) e) in (ap (Rest.onward Sign.slash) (h .0), h .1)
 
   slashes-same : (u : Steps) → Same Form.steps u → (d : Rest) → RestView RestKind.slashes d → writeRest (Rest.onward Sign.slashes u) ++ z ≡ writeRest d ++ y → (Rest.onward Sign.slashes u ≡ d) × (z ≡ y)
-  unfolding write
+  unfolding writeQuestion
   slashes-same u ih d (RestView.slashes v) e = let h = ih v z y f g (ap (drop 2) e) in (ap (Rest.onward Sign.slashes) (h .0), h .1)
 
 -- by the first tree's own form
-by-begin : (b : Begin) (s : Steps) (z y : Bytes) → PathEnds (getD z 0 0) → PathEnds (getD y 0 0) → Same Form.steps s → (d : Path) → writePath (Path.from b s) ++ z ≡ writePath d ++ y → (Path.from b s ≡ d) × (z ≡ y)
+by-begin : (b : Begin) (s : Steps) (z y : Bytes) → PathEnds (getD z 0 0) → PathEnds (getD y 0 0) → Same Form.steps s → (d : Path) → writePath (b, s) ++ z ≡ writePath d ++ y → ((b, s) ≡ d) × (z ≡ y)
 by-begin Begin.deep s z y f g ih d e = deep-same z y f g s ih d (other-path d _ y true e (begin-class Begin.deep s z)) e
 by-begin Begin.plain s z y f g ih d e = plain-same z y f g s ih d (other-path d _ y false e (begin-class Begin.plain s z)) e
 
@@ -192,18 +192,15 @@ mutual
   items-question (Question.either q i) = more-items Chain.ors q i (items-question q) (same-whole Chain.ands i (items-conj i) spine-conj)
 
   items-conj : (q : Conj) → Items Chain.ands q
-  items-conj (Conj.part i) = record { spine = record { first = i; more = []; is = refl }; first = λ d z y f g e. same-part i d z y f g e; more = tt }
-  items-conj (Conj.both q i) = more-items Chain.ands q i (items-conj q) (λ d z y f g e. same-part i d z y f g e)
+  items-conj (Conj.unit i) = record { spine = record { first = i; more = []; is = refl }; first = λ d z y f g e. same-unit i d z y f g e; more = tt }
+  items-conj (Conj.both q i) = more-items Chain.ands q i (items-conj q) (λ d z y f g e. same-unit i d z y f g e)
 
-  same-part : (p : Part) → Same Form.part p
-  same-part (Part.deny u) d z y f g e = deny-same z y f g u (λ d z y f g e. same-part u d z y f g e) d (other-part d _ y PartKind.deny g e (unit-class (Part.deny u) z f PartKind.deny (PartView.deny u))) e
-  same-part (Part.group q) d z y f g e = group-same z y f g q (same-whole Chain.ors q (items-question q) spine-question) d (other-part d _ y PartKind.group g e (unit-class (Part.group q) z f PartKind.group (PartView.group q))) e
-  same-part (Part.label w) d z y f g e = label-same z y f g w d (other-part d _ y PartKind.label g e (unit-class (Part.label w) z f PartKind.label (PartView.label w))) e
-  same-part (Part.text w) d z y f g e = text-same z y f g w d (other-part d _ y PartKind.text g e (unit-class (Part.text w) z f PartKind.text (PartView.text w))) e
-  same-part (Part.path p) d z y f g e = path-same z y f g p (λ d z y f g e. same-path p d z y f g e) d (other-part d _ y PartKind.path g e (unit-class (Part.path p) z f PartKind.path (PartView.path p))) e
-
-  same-path : (p : Path) → Same Form.path p
-  same-path (Path.from b s) d z y f g e = by-begin b s z y f g (λ d z y f g e. same-steps s d z y f g e) d e
+  same-unit : (p : OneUnit) → Same Form.unit p
+  same-unit (OneUnit.deny u) d z y f g e = deny-same z y f g u (λ d z y f g e. same-unit u d z y f g e) d (other-unit d _ y UnitKind.deny g e (class-of-view (OneUnit.deny u) z f UnitKind.deny (UnitView.deny u))) e
+  same-unit (OneUnit.group q) d z y f g e = group-same z y f g q (same-whole Chain.ors q (items-question q) spine-question) d (other-unit d _ y UnitKind.group g e (class-of-view (OneUnit.group q) z f UnitKind.group (UnitView.group q))) e
+  same-unit (OneUnit.label w) d z y f g e = label-same z y f g w d (other-unit d _ y UnitKind.label g e (class-of-view (OneUnit.label w) z f UnitKind.label (UnitView.label w))) e
+  same-unit (OneUnit.text w) d z y f g e = text-same z y f g w d (other-unit d _ y UnitKind.text g e (class-of-view (OneUnit.text w) z f UnitKind.text (UnitView.text w))) e
+  same-unit (OneUnit.path b s) d z y f g e = path-same z y f g b s (λ d z y f g e. by-begin b s z y f g (λ d z y f g e. same-steps s d z y f g e) d e) d (other-unit d _ y UnitKind.path g e (class-of-view (OneUnit.path b s) z f UnitKind.path (UnitView.path b s))) e
 
   same-steps : (s : Steps) → Same Form.steps s
   same-steps (Steps.step m r) d z y f g e = by-move m r z y f g (λ d z y f g e. same-rest r d z y f g e) d e
@@ -222,4 +219,4 @@ by-nothing = record { conj = record { path = record { bracket = eqb-false 0 91 r
 
 -- WRITING IS INJECTIVE
 pub write-once : WriteOnce
-write-once q d e = same-question q d [] [] by-nothing by-nothing (append-nil (write q) ∙ e ∙ sym (append-nil (write d))) .0
+write-once q d e = same-question q d [] [] by-nothing by-nothing (append-nil (writeQuestion q) ∙ e ∙ sym (append-nil (writeQuestion d))) .0

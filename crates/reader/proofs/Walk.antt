@@ -9,11 +9,11 @@ use lib.Seq.{take-append-seam}
 use lib.Dec.{lit<, eqb, T}
 use borrow.Author.Tests.{eq-eqb, ne-eqb, eqb-false}
 use Rattle.meaning.specs.Bytes.{Bytes, ascii}
-use Rattle.meaning.specs.Question.{Question, Steps, Rest, Sign, Move, Name, Quoted, isLetter, isNameByte, isName, writeQuoted, write, writeSteps, writeRest}
+use Rattle.meaning.specs.Question.{Question, Steps, Rest, Sign, Move, Name, Quoted, isLetter, isNameByte, isName, writeQuoted, writeQuestion, writeSteps, writeRest}
 use Rattle.meaning.specs.Term.{Term, normal, normalSteps, normalRest}
 use Rattle.meaning.specs.Entry.{root}
 use Rattle.reader.specs.declared.State.{State}
-use Rattle.reader.specs.Packed.{Place, placeOf}
+use Rattle.reader.specs.Packed.{Place, wordPlace}
 use Rattle.reader.specs.inner.Reading.{added, moved, deepened, opened, failed, byteAt, shutBy, fronts, span, reach, reachSteps, reachRest, Form, PathEnds, Made, MadeOf, Goes, Reads, afterQuoted, Quotes}
 use Rattle.reader.proofs.Text.{inside, letter-inside, head-at, rest-at, span-inside, span-more}
 use Rattle.reader.proofs.Emit.{emit-text, emit-child, emit-lower, emit-at}
@@ -33,7 +33,7 @@ no-step v = elim v [ ]
 
 module _ {t : Bytes} where
   pub steps-dot : {s r : State} → byteAt t (s .at) ≡ 46 → Reads Form.rest t (moved s (s .at + 1)) r → Reads Form.steps t s r
-  unfolding write normal reach
+  unfolding writeQuestion normal reach
   steps-dot {s} {r} b a =
       let i : s .at < length t = inside t (s .at) 46 b (lit< tt) in
       record {
@@ -48,7 +48,7 @@ module _ {t : Bytes} where
           (w .0, after-byte 46 b (lit< tt) (w .1))
 
   pub steps-star : {s m : State} → (byteAt t (s .at) ≡ 46 → ⊥) → byteAt t (s .at) ≡ 42 → Reads Form.rest t (moved s (s .at + 1)) m → Reads Form.steps t s (added m 3 (m .top) 0)
-  unfolding write normal reach root
+  unfolding writeQuestion normal reach root
   steps-star {s} {m} n b a =
       let i : s .at < length t = inside t (s .at) 42 b (lit< tt) in
       record {
@@ -85,7 +85,7 @@ module _ (t : Bytes) (s : State) (l : isLetter (byteAt t (s .at)) ≡ true) wher
   name-found n r z e f = ap (span isNameByte) (e ∙ append-assoc (n .bytes) (writeRest r) z) ∙ span-all isNameByte (n .bytes) (writeRest r ++ z) (name-all (n .bytes) (n .is-name)) (rest-head r z f .0)
 
   pub name-long : s .at ≤ length t → 64 < nameSize → Reads Form.steps t s (failed s)
-  unfolding write
+  unfolding writeQuestion
   name-long h k = record {
     goes = record { onward = omega arith; inside = h; few = omega arith; level = refl };
     sound = λ ok. absurd (false≢true ok);
@@ -108,7 +108,7 @@ module _ (t : Bytes) (s : State) (l : isLetter (byteAt t (s .at)) ≡ true) wher
       some = omega (arith, span-more isNameByte t (s .at) i (rw l))
 
   pub name-read : {m : State} → s .at ≤ length t → nameSize ≤ 64 → Reads Form.rest t afterName m → Reads Form.steps t s (added (added m 4 (afterName .top) (m .top)) 3 (m .list .count) 0)
-  unfolding write normal reach root
+  unfolding writeQuestion normal reach root
   name-read {m} h k a =
       let i = name-some h in
       record {
@@ -132,7 +132,7 @@ module _ (t : Bytes) (s : State) (l : isLetter (byteAt t (s .at)) ≡ true) wher
       made : (n : Name) → nameSize ≡ length (n .bytes) → drop (s .at) t ≡ n .bytes ++ drop (s .at + length (n .bytes)) t → (u : Rest) → MadeOf Form.rest t afterName m u
           → MadeOf Form.steps t s (added (added m 4 (afterName .top) (m .top)) 3 (m .list .count) 0) (Steps.step (Move.name n) u)
       made n q e u y = over-one 3 Term.child emit-child (λ n a. refl) (over-two 4 Term.at emit-at (λ n a b. refl) (label-made (n .bytes) e)
-          (subst (λ j. Made t (added (moved s (s .at + j)) 1 (s .at) j) m (writeRest u) (normalRest placeOf (s .at + j) u) (reachRest (s .depth) u)) q y))
+          (subst (λ j. Made t (added (moved s (s .at + j)) 1 (s .at) j) m (writeRest u) (normalRest wordPlace (s .at + j) u) (reachRest (s .depth) u)) q y))
 
       go : s .ok ≡ true → (p : Steps) (z : Bytes) → drop (s .at) t ≡ writeSteps p ++ z → PathEnds (getD z 0 0) → StepView StepKind.name p → (m .ok ≡ true) × MadeOf Form.steps t s (added (added m 4 (afterName .top) (m .top)) 3 (m .list .count) 0) p
       go ok p z e f (StepView.name n u) =
@@ -149,7 +149,7 @@ module _ (t : Bytes) (s : State) (l : isLetter (byteAt t (s .at)) ≡ true) wher
 -- WHAT FOLLOWS A STEP'S HEAD
 module _ {t : Bytes} where
   pub rest-end : {s : State} → (byteAt t (s .at) ≡ 91 → ⊥) → (byteAt t (s .at) ≡ 47 → ⊥) → s .at ≤ length t → Reads Form.rest t s (added s 0 0 0)
-  unfolding write normal reach
+  unfolding writeQuestion normal reach
   rest-end {s} n n′ h = record {
     goes = record { onward = omega arith; inside = h; few = omega arith; level = refl };
     sound = λ ok. (ok, (Rest.end, nothing-made));
@@ -160,7 +160,7 @@ module _ {t : Bytes} where
       go ok p z RestView.end = (ok, nothing-made)
 
   pub rest-ends : {s r : State} → (byteAt t (s .at) ≡ 91 → ⊥) → byteAt t (s .at) ≡ 47 → fronts (ascii "/text()=") (drop (s .at) t) ≡ true → Quotes t (moved s (s .at + 8)) r 2 → Reads Form.rest t s r
-  unfolding write normal reach root
+  unfolding writeQuestion normal reach root
   rest-ends {s} {r} n b c a = record {
     goes = record { onward = omega (arith, a .goes); inside = a .goes .inside; few = omega (arith, a .goes); level = a .goes .level };
     sound = λ ok. let w = a .sound ok in (sym (ap (λ k. k .ok) (w .1)) ∙ ok, (Rest.ends (w .0), made (w .0) (w .1) (w .2)));
@@ -178,7 +178,7 @@ module _ {t : Bytes} where
 
   pub rest-slashes : {s m : State} → (byteAt t (s .at) ≡ 91 → ⊥) → byteAt t (s .at) ≡ 47 → fronts (ascii "/text()=") (drop (s .at) t) ≡ false → fronts (ascii "//") (drop (s .at) t) ≡ true
       → Reads Form.steps t (moved s (s .at + 2)) m → Reads Form.rest t s (added m 5 (m .top) 0)
-  unfolding write normal reach root
+  unfolding writeQuestion normal reach root
   rest-slashes {s} {m} n b c c′ a = record {
     goes = record { onward = omega (arith, a .goes); inside = a .goes .inside; few = omega (arith, a .goes); level = a .goes .level };
     sound = λ ok. let w = a .sound ok in (w .0, (Rest.onward Sign.slashes (w .1 .0), made (w .1 .0) (w .1 .1)));
@@ -195,7 +195,7 @@ module _ {t : Bytes} where
 
   pub rest-slash : {s r : State} → (byteAt t (s .at) ≡ 91 → ⊥) → byteAt t (s .at) ≡ 47 → fronts (ascii "/text()=") (drop (s .at) t) ≡ false → fronts (ascii "//") (drop (s .at) t) ≡ false
       → Reads Form.steps t (moved s (s .at + 1)) r → Reads Form.rest t s r
-  unfolding write normal reach
+  unfolding writeQuestion normal reach
   rest-slash {s} {r} n b c c′ a = record {
     goes = record { onward = omega (arith, a .goes); inside = a .goes .inside; few = omega (arith, a .goes); level = a .goes .level };
     sound = λ ok. let w = a .sound ok in (w .0, (Rest.onward Sign.slash (w .1 .0), after-byte 47 b (lit< tt) (w .1 .1)));
@@ -207,8 +207,8 @@ module _ {t : Bytes} where
           let w = a .complete ok u z (rest-at t (s .at) (47 ∷ []) (writeSteps u ++ z) e) f in
           (w .0, after-byte 47 b (lit< tt) (w .1))
 
-  pub rest-bracket : {s m r : State} → byteAt t (s .at) ≡ 91 → Reads Form.question t (deepened s) m → Reads Form.rest t (shutBy t m 93 (s .depth)) r → Reads Form.rest t s (added r 4 (shutBy t m 93 (s .depth) .top) (r .top))
-  unfolding write normal reach root
+  pub rest-bracket : {s m r : State} → byteAt t (s .at) ≡ 91 → Reads Form.question t (deepened s (s .at + 1)) m → Reads Form.rest t (shutBy t m 93 (s .depth)) r → Reads Form.rest t s (added r 4 (shutBy t m 93 (s .depth) .top) (r .top))
+  unfolding writeQuestion normal reach root
   rest-bracket {s} {m} {r} b a x =
       let i : s .at < length t = inside t (s .at) 91 b (lit< tt) in
       let c = shut-at t m 93 (s .depth) (lit< tt) (a .goes .inside) in
@@ -225,17 +225,17 @@ module _ {t : Bytes} where
       shut : State
       shut = moved (opened m (s .depth)) (m .at + 1)
 
-      made : (q : Question) (u : Rest) → byteAt t (m .at) ≡ 93 → MadeOf Form.question t (deepened s) m q → MadeOf Form.rest t (shutBy t m 93 (s .depth)) r u → MadeOf Form.rest t s (added r 4 (shutBy t m 93 (s .depth) .top) (r .top)) (Rest.bracket q u)
+      made : (q : Question) (u : Rest) → byteAt t (m .at) ≡ 93 → MadeOf Form.question t (deepened s (s .at + 1)) m q → MadeOf Form.rest t (shutBy t m 93 (s .depth)) r u → MadeOf Form.rest t s (added r 4 (shutBy t m 93 (s .depth) .top) (r .top)) (Rest.bracket q u)
       made q u d y v = rw (shut-done t m 93 (s .depth) d)
-          (recast (ap (λ k. 91 ∷ k) (append-assoc (write q) (93 ∷ []) (writeRest u))) (ap (λ k. Term.at (normal placeOf (s .at + 1) q) (normalRest placeOf k u)) place)
+          (recast (ap (λ k. 91 ∷ k) (append-assoc (writeQuestion q) (93 ∷ []) (writeRest u))) (ap (λ k. Term.at (normal wordPlace (s .at + 1) q) (normalRest wordPlace k u)) place)
           (over-two 4 Term.at emit-at (λ n a b. refl) (after-open 91 b (lit< tt) (before-shut 93 (s .depth) d (lit< tt) y)) (subst (λ k. MadeOf Form.rest t k r u) (shut-done t m 93 (s .depth) d) v)))
         where
-          place : m .at + 1 ≡ s .at + length (write q) + 2
+          place : m .at + 1 ≡ s .at + length (writeQuestion q) + 2
           place = omega (arith, y .place)
 
       go : s .ok ≡ true → (p : Rest) (z : Bytes) → drop (s .at) t ≡ writeRest p ++ z → PathEnds (getD z 0 0) → RestView RestKind.bracket p → (r .ok ≡ true) × MadeOf Form.rest t s (added r 4 (shutBy t m 93 (s .depth) .top) (r .top)) p
       go ok p z e f (RestView.bracket q u) =
-          let e′ : drop (s .at + 1) t ≡ write q ++ (93 ∷ (writeRest u ++ z)) = rest-at t (s .at) (91 ∷ []) _ e ∙ append-assoc (write q) (93 ∷ writeRest u) z in
+          let e′ : drop (s .at + 1) t ≡ writeQuestion q ++ (93 ∷ (writeRest u ++ z)) = rest-at t (s .at) (91 ∷ []) _ e ∙ append-assoc (writeQuestion q) (93 ∷ writeRest u) z in
           let w = a .complete ok q (93 ∷ (writeRest u ++ z)) e′ by-bracket in
           let e″ = left-over (93 ∷ (writeRest u ++ z)) (w .1) e′ in
           let d : byteAt t (m .at) ≡ 93 = head-at t (m .at) (93 ∷ (writeRest u ++ z)) e″ in

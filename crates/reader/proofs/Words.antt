@@ -38,14 +38,14 @@ name-word [] e h = absurd (false≢true e)
 name-word (b ∷ x) e h = go (isNameByte b) (rw e) h
   where
     go : (c : Bool) → c ≡ true → cond c (suc (span isNameByte x)) 0 ≤ 64 → T (isName (take (cond c (suc (span isNameByte x)) 0) (b ∷ x)))
-    go true i k = and-T (isLetter b && all isNameByte (take (span isNameByte x) x)) (leb (length (take (span isNameByte x) x)) 63) (and-T (isLetter b) (all isNameByte (take (span isNameByte x) x)) (subst T (sym e) tt) (span-front isNameByte x))
-        (le→leb (length (take (span isNameByte x) x)) 63 (omega (arith, span-length isNameByte x)))
+    go true i k = and-T (isLetter b && all isNameByte (take (span isNameByte x) x)) (leb (suc (length (take (span isNameByte x) x))) 64) (and-T (isLetter b) (all isNameByte (take (span isNameByte x) x)) (subst T (sym e) tt) (span-front isNameByte x))
+        (le→leb (suc (length (take (span isNameByte x) x))) 64 (omega (arith, span-length isNameByte x)))
     go false i k = absurd (false≢true i)
 
 pub name-size : (w : Bytes) → T (isName w) → length w ≤ 64
 unfolding isName
 name-size [] h = omega arith
-name-size (b ∷ w) h = omega (arith, leb→le (length w) 63 (both (isLetter b && all isNameByte w) (leb (length w) 63) h .1))
+name-size (b ∷ w) h = omega (arith, leb→le (suc (length w)) 64 (both (isLetter b && all isNameByte w) (leb (suc (length w)) 64) h .1))
 
 pub name-some-byte : (w : Bytes) → T (isName w) → 0 < length w
 unfolding isName

@@ -1,6 +1,6 @@
 -- Nesting (01, "Written questions"): the greatest number of `(` and `[` open at once, not counting the `()` of a test.
 use Prim.Native.Nat.{ℕ, zero, suc, max}
-use Rattle.meaning.specs.Question.{Question, Conj, Part, Path, Steps, Rest}
+use Rattle.meaning.specs.Question.{Question, Conj, OneUnit, Steps, Rest}
 
 unfoldable mutual
   pub nesting : Question → ℕ
@@ -8,18 +8,15 @@ unfoldable mutual
   nesting (Question.either q c) = max (nesting q) (nestingConj c)
 
   pub nestingConj : Conj → ℕ
-  nestingConj (Conj.part p) = nestingPart p
-  nestingConj (Conj.both c p) = max (nestingConj c) (nestingPart p)
+  nestingConj (Conj.unit p) = nestingUnit p
+  nestingConj (Conj.both c p) = max (nestingConj c) (nestingUnit p)
 
-  pub nestingPart : Part → ℕ
-  nestingPart (Part.deny p) = nestingPart p
-  nestingPart (Part.group q) = suc (nesting q)
-  nestingPart (Part.label w) = 0
-  nestingPart (Part.text w) = 0
-  nestingPart (Part.path p) = nestingPath p
-
-  pub nestingPath : Path → ℕ
-  nestingPath (Path.from b s) = nestingSteps s
+  pub nestingUnit : OneUnit → ℕ
+  nestingUnit (OneUnit.deny p) = nestingUnit p
+  nestingUnit (OneUnit.group q) = suc (nesting q)
+  nestingUnit (OneUnit.label w) = 0
+  nestingUnit (OneUnit.text w) = 0
+  nestingUnit (OneUnit.path b s) = nestingSteps s
 
   pub nestingSteps : Steps → ℕ
   nestingSteps (Steps.step m r) = nestingRest r

@@ -11,12 +11,12 @@ use Rattle.question.specs.declared.List as L
 abbrev pub Place : Type 0
 Place = ℕ × ℕ
 
-abbrev pub placeOf : ℕ → Bytes → Place
-placeOf start w = (start, length w)
+abbrev pub wordPlace : ℕ → Bytes → Place
+wordPlace start w = (start, length w)
 
 -- a question's entries, each word named by its place in the text
 abbrev pub placedEntries : Question → List (Entry Place)
-placedEntries q = flat 0 (normal placeOf 0 q)
+placedEntries q = flat 0 (normal wordPlace 0 q)
 
 -- kinds in 01's order, self 0 to not 8
 abbrev pub kindCode : Entry Place → ℕ

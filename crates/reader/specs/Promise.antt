@@ -2,7 +2,7 @@
 use Prim.Native.Nat.{ℕ}
 use mathlib.Core.Path.{_≡_}
 use Rattle.meaning.specs.Bytes.{Bytes}
-use Rattle.meaning.specs.Question.{Question, write}
+use Rattle.meaning.specs.Question.{Question, writeQuestion}
 use Rattle.meaning.specs.Entry.{entries}
 use Rattle.question.specs.declared.List as L
 use Rattle.reader.specs.declared.Answer.{Answer}
@@ -11,7 +11,7 @@ use Rattle.reader.specs.Read.{Written, Read}
 
 -- no text is written by two trees
 abbrev pub WriteOnce : Type 0
-WriteOnce = (q p : Question) → write q ≡ write p → q ≡ p
+WriteOnce = (q p : Question) → writeQuestion q ≡ writeQuestion p → q ≡ p
 
 -- the contract of `question_read` allows one answer
 abbrev pub OneRead : Type 0

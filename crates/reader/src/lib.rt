@@ -1,14 +1,14 @@
 // The reader of written questions: functions for the forms of the grammar call each other, and the bytes left to read fall.
 use question::List;
 ghost use mathlib.Core.Path.{_≡_};
-ghost use mathlib.Core.Bool.{true};
+ghost use mathlib.Core.Bool.{true, cond};
 ghost use Prim.Native.Nat.{ℕ, _+_, _*_, _<_, _≤_};
 ghost use mathlib.Core.List.{[], _∷_};
 ghost use lib.ListN.{length, drop};
 ghost use Rattle.meaning.specs.Question.{within as inRange, isLetter, isNameByte, isQuotable};
 ghost use Rattle.reader.specs.Packed.{emptyList};
-ghost use Rattle.reader.specs.Read.{Read, refused};
-ghost use Rattle.reader.specs.inner.Reading.{pushed, added, moved, failed, deepened, byteAt, shutBy, fronts, passes, span, Form, Chain, Ready, Reads, Extends, Quotes, Scanned};
+ghost use Rattle.reader.specs.Read.{Read};
+ghost use Rattle.reader.specs.inner.Reading.{pushed, added, moved, failed, deepened, byteAt, shutBy, fronts, passes, span, Form, Chain, Ready, Reads, Extends, Quotes, refused, Scanned};
 
 // The answer to a text: 0 and its list, or the number of the refusal and the empty list.
 #[repr(C)]
@@ -107,21 +107,31 @@ fn fail(s: State) -> State
     t
 }
 
-// Past an opening bracket.
-fn deeper(s: State) -> State
-    requires { ⌜ s .at ≤ 255 ⌝ }
+// Past an opening bracket: one more is open.
+fn deeper(s: State, at: usize) -> State
     requires { ⌜ s .depth ≤ 255 ⌝ }
-    ensures { λ r. ⌜ r ≡ deepened s ⌝ }
+    ensures { λ r. ⌜ r ≡ deepened s at ⌝ }
 {
     let mut t = s;
     let depth = s.depth + 1;
-    t.at = s.at + 1;
+    t.at = at;
     t.depth = depth;
     if s.most < depth {
         t.most = depth;
         return t;
     }
     t
+}
+
+// Past an opening bracket, or past the bytes of a test, whose `()` opens nothing.
+fn past(s: State, at: usize, opens: bool) -> State
+    requires { ⌜ s .depth ≤ 255 ⌝ }
+    ensures { λ r. ⌜ r ≡ cond opens (deepened s at) (moved s at) ⌝ }
+{
+    if opens {
+        return deeper(s, at);
+    }
+    to(s, at)
 }
 
 // The byte at a place, and 0 past the end.
@@ -299,7 +309,7 @@ fn ands(text: &[u8], s: State) -> State
 // unit := '!' unit | '(' question ')' | label()= quoted | text()= quoted | path
 fn unit(text: &[u8], s: State) -> State
     requires { ⌜ Ready (now text) s ⌝ }
-    ensures { λ r. ⌜ Reads Form.part (now (text .entry)) s r ⌝ }
+    ensures { λ r. ⌜ Reads Form.unit (now (text .entry)) s r ⌝ }
 {
     let at = s.at;
     let b = peek(text, at);
@@ -308,14 +318,14 @@ fn unit(text: &[u8], s: State) -> State
         return add(r, NOT, r.top, 0);
     }
     if b == 40 {
-        let q = question(text, deeper(s));
+        let q = question(text, past(s, at + 1, true));
         return shut(text, q, 41, s.depth);
     }
     if stands(text, at, b"label()=") {
-        return quoted(text, to(s, at + 8), LABEL);
+        return quoted(text, past(s, at + 8, false), LABEL);
     }
     if stands(text, at, b"text()=") {
-        return quoted(text, to(s, at + 7), TEXT);
+        return quoted(text, past(s, at + 7, false), TEXT);
     }
     path(text, s)
 }
@@ -377,7 +387,7 @@ fn rest(text: &[u8], s: State) -> State
     let at = s.at;
     let b = peek(text, at);
     if b == 91 {
-        let q = question(text, deeper(s));
+        let q = question(text, past(s, at + 1, true));
         let c = shut(text, q, 93, s.depth);
         let r = rest(text, c);
         return add(r, AT, c.top, r.top);
@@ -386,7 +396,7 @@ fn rest(text: &[u8], s: State) -> State
         return add(s, SELF, 0, 0);
     }
     if stands(text, at, b"/text()=") {
-        return quoted(text, to(s, at + 8), TEXT);
+        return quoted(text, past(s, at + 8, false), TEXT);
     }
     if stands(text, at, b"//") {
         let r = steps(text, to(s, at + 2));

@@ -18,7 +18,7 @@ use Rattle.reader.specs.declared.Answer.{Answer}
 use Rattle.question.specs.Listed.{Keeps, listed}
 use Rattle.reader.specs.Packed.{placedEntries, packed}
 use Rattle.reader.specs.Read.{Written, Read}
-use Rattle.reader.proofs.Outcome.{one-read, read-keeps}
+use Rattle.reader.proofs.Outcome.{one-read, read-taken, taken-list, read-keeps}
 use Rattle.reply.specs.Read.{Is}
 use Rattle.reply.proofs.Round.{size-is}
 use Rattle.depot.specs.Answer.{call, laid, bytes, Answered}
@@ -43,7 +43,7 @@ module _ (t : Bytes) (good : Good t) (F : Fragment) (sound : Sound 0 F) (none : 
   tree-list = packed (placedEntries (good .written .tree))
 
   reads : Read t (record { refusal = 0; list = tree-list })
-  reads = Read.list (good .some-byte) (good .few-bytes) (good .written) (good .shallow) (good .few-entries)
+  reads = taken-list (read-taken (good .written) (good .some-byte, good .few-bytes) (good .shallow) (good .few-entries)) (good .written)
 
   abbrev R : Round
   R = record { register = boxed F; list = tree-list; text = t; number = number }

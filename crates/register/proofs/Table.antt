@@ -10,8 +10,8 @@ use lib.Dec.{T, lit<, lit≤}
 use Rattle.meaning.specs.Says.{Says}
 use Rattle.meaning.specs.Bytes.{Bytes, ascii, sameBytes, labelIs, textIs}
 use Rattle.meaning.specs.Holds.{Holds}
-use Rattle.meaning.specs.Question.{Question, Conj, Part, Path, Steps, Rest, Begin, Sign, Move, Name, Quoted, isName, isQuoted, all}
-use Rattle.meaning.specs.Question.{write}
+use Rattle.meaning.specs.Question.{Question, Conj, OneUnit, Steps, Rest, Begin, Sign, Move, Name, Quoted, isName, isQuoted, all}
+use Rattle.meaning.specs.Question.{writeQuestion}
 use Rattle.meaning.specs.Term.{normal}
 use Rattle.meaning.specs.Entry.{Entry, entries, root, flat}
 use Rattle.meaning.specs.Formula.{stepValues}
@@ -25,7 +25,7 @@ use Rattle.question.specs.Listed.{Keeps, listed}
 use Rattle.reader.specs.Nesting.{nesting}
 use Rattle.reader.specs.Packed.{placedEntries, packed}
 use Rattle.reader.specs.Read.{Written, Read}
-use Rattle.reader.proofs.Outcome.{read-keeps, read-listed}
+use Rattle.reader.proofs.Outcome.{read-taken, taken-list, read-keeps, read-listed}
 use Rattle.question.proofs.Listed.{listed-length, keeps-earlier}
 use Rattle.meaning.proofs.Bound.{bounded, no-steps}
 use Rattle.register.specs.Round.{Round, callOf}
@@ -37,7 +37,7 @@ use Rattle.register.proofs.Tried.{cut, isOpen, tells, one-box, none-1, 
 -- ---- condition 3 applies: fragment 0 keeps the bound, the others make no step
 module _ (text : Bytes) (good : Good text) where
   reads : Read text (record { refusal = 0; list = packed (placedEntries (good .written .tree)) })
-  reads = Read.list (good .some-byte) (good .few-bytes) (good .written) (good .shallow) (good .few-entries)
+  reads = taken-list (read-taken (good .written) (good .some-byte, good .few-bytes) (good .shallow) (good .few-entries)) (good .written)
 
   keeps : Keeps (round text good .list) text
   keeps = read-keeps text (round text good .list) reads
@@ -63,7 +63,7 @@ abbrev isYes : Outcome → Bool
 isYes waiting = false
 isYes (said b) = b
 
-case : {text : Bytes} {answer : Bool} (q : Question) → write q ≡ text → 1 ≤ length text → length text ≤ 255 → nesting q ≤ 12 → length (placedEntries q) ≤ 32 → heardAll q ≡ said answer → Case text answer
+case : {text : Bytes} {answer : Bool} (q : Question) → writeQuestion q ≡ text → 1 ≤ length text → length text ≤ 255 → nesting q ≤ 12 → length (placedEntries q) ≤ 32 → heardAll q ≡ said answer → Case text answer
 case {text} {answer} q w a b c d e = record { good = good; replied = all-replied (round text good) (asked text good); right = subst (Says (Holds (joined register) q (0, 0))) (ap isYes (sym (desk-answer register cut q 1 .1) ∙ e)) (desk-answer register cut q 1 .2) }
   where
     good : Good text
@@ -112,20 +112,20 @@ nothing : Quoted
 unfolding isQuoted all
 nothing = quoted (ascii "") tt
 
-abbrev one : Part → Question
-one p = Question.conj (Conj.part p)
+abbrev one : OneUnit → Question
+one p = Question.conj (Conj.unit p)
 
-abbrev both : Part → Part → Question
-both p q = Question.conj (Conj.both (Conj.part p) q)
+abbrev both : OneUnit → OneUnit → Question
+both p q = Question.conj (Conj.both (Conj.unit p) q)
 
 abbrev step : Move → Rest → Steps
 step m r = Steps.step m r
 
-abbrev path : Steps → Part
-path s = Part.path (Path.from Begin.plain s)
+abbrev path : Steps → OneUnit
+path s = OneUnit.path Begin.plain s
 
-abbrev deep : Steps → Part
-deep s = Part.path (Path.from Begin.deep s)
+abbrev deep : Steps → OneUnit
+deep s = OneUnit.path Begin.deep s
 
 -- a step after `/`
 abbrev then : Move → Rest → Rest
@@ -133,51 +133,51 @@ then m r = Rest.onward Sign.slash (Steps.step m r)
 
 -- ---- the cases
 case-a : Case (ascii "//lift[brake/text()=\"B17\"]") true
-unfolding write normal root flat nesting sameBytes labelIs textIs stepValues visit push row deliver sweep run standIns tabulated laidDown assign solve allHeard outcome lift brake b17
+unfolding writeQuestion normal root flat nesting sameBytes labelIs textIs stepValues visit push row deliver sweep run standIns tabulated laidDown assign solve allHeard outcome lift brake b17
 case-a = case (one (deep (step lift (Rest.bracket (one (path (step brake (Rest.ends b17)))) Rest.end)))) refl (lit≤ tt) (lit≤ tt) (lit≤ tt) (lit≤ tt) refl
 
 case-b : Case (ascii "//lift[brake/text()=\"B09\"&!mark]") false
-unfolding write normal root flat nesting sameBytes labelIs textIs stepValues visit push row deliver sweep run standIns tabulated laidDown assign solve allHeard outcome lift brake mark b09
-case-b = case (one (deep (step lift (Rest.bracket (both (path (step brake (Rest.ends b09))) (Part.deny (path (step mark Rest.end)))) Rest.end)))) refl (lit≤ tt) (lit≤ tt) (lit≤ tt) (lit≤ tt) refl
+unfolding writeQuestion normal root flat nesting sameBytes labelIs textIs stepValues visit push row deliver sweep run standIns tabulated laidDown assign solve allHeard outcome lift brake mark b09
+case-b = case (one (deep (step lift (Rest.bracket (both (path (step brake (Rest.ends b09))) (OneUnit.deny (path (step mark Rest.end)))) Rest.end)))) refl (lit≤ tt) (lit≤ tt) (lit≤ tt) (lit≤ tt) refl
 
 case-c : Case (ascii "//firm") false
-unfolding write normal root flat nesting sameBytes labelIs textIs stepValues visit push row deliver sweep run standIns tabulated laidDown assign solve allHeard outcome firm
+unfolding writeQuestion normal root flat nesting sameBytes labelIs textIs stepValues visit push row deliver sweep run standIns tabulated laidDown assign solve allHeard outcome firm
 case-c = case (one (deep (step firm Rest.end))) refl (lit≤ tt) (lit≤ tt) (lit≤ tt) (lit≤ tt) refl
 
 case-d : Case (ascii "//.[label()=\"firm\"]") true
-unfolding write normal root flat nesting sameBytes labelIs textIs stepValues visit push row deliver sweep run standIns tabulated laidDown assign solve allHeard outcome firmWord
-case-d = case (one (deep (step Move.dot (Rest.bracket (one (Part.label firmWord)) Rest.end)))) refl (lit≤ tt) (lit≤ tt) (lit≤ tt) (lit≤ tt) refl
+unfolding writeQuestion normal root flat nesting sameBytes labelIs textIs stepValues visit push row deliver sweep run standIns tabulated laidDown assign solve allHeard outcome firmWord
+case-d = case (one (deep (step Move.dot (Rest.bracket (one (OneUnit.label firmWord)) Rest.end)))) refl (lit≤ tt) (lit≤ tt) (lit≤ tt) (lit≤ tt) refl
 
 case-e : Case (ascii "lift") false
-unfolding write normal root flat nesting sameBytes labelIs textIs stepValues visit push row deliver sweep run standIns tabulated laidDown assign solve allHeard outcome lift
+unfolding writeQuestion normal root flat nesting sameBytes labelIs textIs stepValues visit push row deliver sweep run standIns tabulated laidDown assign solve allHeard outcome lift
 case-e = case (one (path (step lift Rest.end))) refl (lit≤ tt) (lit≤ tt) (lit≤ tt) (lit≤ tt) refl
 
 case-f : Case (ascii "site/lift") true
-unfolding write normal root flat nesting sameBytes labelIs textIs stepValues visit push row deliver sweep run standIns tabulated laidDown assign solve allHeard outcome site lift
+unfolding writeQuestion normal root flat nesting sameBytes labelIs textIs stepValues visit push row deliver sweep run standIns tabulated laidDown assign solve allHeard outcome site lift
 case-f = case (one (path (step site (then lift Rest.end)))) refl (lit≤ tt) (lit≤ tt) (lit≤ tt) (lit≤ tt) refl
 
 case-g : Case (ascii "text()=\"\"") true
-unfolding write normal root flat nesting sameBytes labelIs textIs stepValues visit push row deliver sweep run standIns tabulated laidDown assign solve allHeard outcome nothing
-case-g = case (one (Part.text nothing)) refl (lit≤ tt) (lit≤ tt) (lit≤ tt) (lit≤ tt) refl
+unfolding writeQuestion normal root flat nesting sameBytes labelIs textIs stepValues visit push row deliver sweep run standIns tabulated laidDown assign solve allHeard outcome nothing
+case-g = case (one (OneUnit.text nothing)) refl (lit≤ tt) (lit≤ tt) (lit≤ tt) (lit≤ tt) refl
 
 case-h : Case (ascii "!.") false
-unfolding write normal root flat nesting sameBytes labelIs textIs stepValues visit push row deliver sweep run standIns tabulated laidDown assign solve allHeard outcome
-case-h = case (one (Part.deny (path (step Move.dot Rest.end)))) refl (lit≤ tt) (lit≤ tt) (lit≤ tt) (lit≤ tt) refl
+unfolding writeQuestion normal root flat nesting sameBytes labelIs textIs stepValues visit push row deliver sweep run standIns tabulated laidDown assign solve allHeard outcome
+case-h = case (one (OneUnit.deny (path (step Move.dot Rest.end)))) refl (lit≤ tt) (lit≤ tt) (lit≤ tt) (lit≤ tt) refl
 
 case-i : Case (ascii "*/*/*") true
-unfolding write normal root flat nesting sameBytes labelIs textIs stepValues visit push row deliver sweep run standIns tabulated laidDown assign solve allHeard outcome
+unfolding writeQuestion normal root flat nesting sameBytes labelIs textIs stepValues visit push row deliver sweep run standIns tabulated laidDown assign solve allHeard outcome
 case-i = case (one (path (step Move.star (then Move.star (then Move.star Rest.end))))) refl (lit≤ tt) (lit≤ tt) (lit≤ tt) (lit≤ tt) refl
 
 case-j : Case (ascii "*/*/*/*") false
-unfolding write normal root flat nesting sameBytes labelIs textIs stepValues visit push row deliver sweep run standIns tabulated laidDown assign solve allHeard outcome
+unfolding writeQuestion normal root flat nesting sameBytes labelIs textIs stepValues visit push row deliver sweep run standIns tabulated laidDown assign solve allHeard outcome
 case-j = case (one (path (step Move.star (then Move.star (then Move.star (then Move.star Rest.end)))))) refl (lit≤ tt) (lit≤ tt) (lit≤ tt) (lit≤ tt) refl
 
 case-k : Case (ascii "site[lift/mark]&site[lift/brake/text()=\"B17\"]") true
-unfolding write normal root flat nesting sameBytes labelIs textIs stepValues visit push row deliver sweep run standIns tabulated laidDown assign solve allHeard outcome site lift mark brake b17
+unfolding writeQuestion normal root flat nesting sameBytes labelIs textIs stepValues visit push row deliver sweep run standIns tabulated laidDown assign solve allHeard outcome site lift mark brake b17
 case-k = case (both (path (step site (Rest.bracket (one (path (step lift (then mark Rest.end)))) Rest.end))) (path (step site (Rest.bracket (one (path (step lift (then brake (Rest.ends b17))))) Rest.end)))) refl (lit≤ tt) (lit≤ tt) (lit≤ tt) (lit≤ tt) refl
 
 case-l : Case (ascii "site[lift/mark&lift/brake/text()=\"B17\"]") false
-unfolding write normal root flat nesting sameBytes labelIs textIs stepValues visit push row deliver sweep run standIns tabulated laidDown assign solve allHeard outcome site lift mark brake b17
+unfolding writeQuestion normal root flat nesting sameBytes labelIs textIs stepValues visit push row deliver sweep run standIns tabulated laidDown assign solve allHeard outcome site lift mark brake b17
 case-l = case (one (path (step site (Rest.bracket (both (path (step lift (then mark Rest.end))) (path (step lift (then brake (Rest.ends b17))))) Rest.end)))) refl (lit≤ tt) (lit≤ tt) (lit≤ tt) (lit≤ tt) refl
 
 -- ---- a's entries, and m
@@ -186,14 +186,14 @@ unfolding case-a case
 a-tree = refl
 
 a-entries : length (placedEntries (case-a .good .written .tree)) ≡ 10
-unfolding write normal root flat lift brake b17
+unfolding writeQuestion normal root flat lift brake b17
 a-entries = rw a-tree refl
 
 steps-of : Question → ℕ
 steps-of q = length (laidDown (rowsIn register 0) (entries q) 1 0 .steps)
 
 a-steps : steps-of (one (deep (step lift (Rest.bracket (one (path (step brake (Rest.ends b17)))) Rest.end)))) ≡ 21
-unfolding steps-of write normal root flat sameBytes labelIs textIs visit push row deliver sweep run standIns tabulated laidDown lift brake b17
+unfolding steps-of writeQuestion normal root flat sameBytes labelIs textIs visit push row deliver sweep run standIns tabulated laidDown lift brake b17
 a-steps = refl
 
 m-steps : length (replyOf (round _ (case-a .good)) 0 .steps) ≡ 21

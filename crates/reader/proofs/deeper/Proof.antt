@@ -11,17 +11,13 @@ use Rattle.reader.proofs.deeper.Lts as lts
 add-depth : tie.Need-add-depth
 add-depth c = search needs
 
--- src/lib.rt:126:12
-add-t : tie.Need-add-t
-add-t c = search needs
-
 -- src/lib.rt:130:9
 returns : tie.Need-returns
-returns c = let e : max (c .before .before .before .before .args .s .most) (c .before .before .before .before .args .s .depth + 1) ≡ c .before .before .before .before .args .s .depth + 1 = omega arith in rw e
+returns c = let e : max (c .before .before .before .args .s .most) (c .before .before .before .args .s .depth + 1) ≡ c .before .before .before .args .s .depth + 1 = omega arith in rw e
 
 -- src/lib.rt:119:1
 returns-2 : tie.Need-returns-2
-returns-2 c = let e : max (c .before .before .before .before .args .s .most) (c .before .before .before .before .args .s .depth + 1) ≡ c .before .before .before .before .args .s .most = omega arith in rw e
+returns-2 c = let e : max (c .before .before .before .args .s .most) (c .before .before .before .args .s .depth + 1) ≡ c .before .before .before .args .s .most = omega arith in rw e
 
 pub deeper-spec : {M : Type 1} → statement M
-deeper-spec = tie.close (tie.spec add-depth add-t returns returns-2)
+deeper-spec = tie.close (tie.spec add-depth returns returns-2)

@@ -3,21 +3,21 @@
 use Prim.Native.Nat.{ℕ, zero, suc, _+_, _-_, _*_, _%_, _≤_, _<_, max}
 use mathlib.Core.Path.{_≡_}
 use mathlib.Core.Bool.{Bool, true, false, cond, _&&_}
-use mathlib.Core.Logic.{_⊎_}
+use mathlib.Core.Logic.{_≢_}
 use mathlib.Core.List.{List, [], _∷_, _++_}
 use lib.ListN.{length, getD, drop, set}
 use lib.Dec.{ltb, eqb}
-use Rattle.meaning.specs.Bytes.{Bytes, ascii}
-use Rattle.meaning.specs.Question.{Question, Conj, Part, Path, Steps, Rest, Quoted, isNameByte, isQuotable, writeQuoted}
-use Rattle.meaning.specs.Question.{write, writeConj, writePart, writePath, writeSteps, writeRest}
-use Rattle.meaning.specs.Term.{Term, normal, normalConj, normalPart, normalPath, normalSteps, normalRest}
+use Rattle.meaning.specs.Refused.{Granted}
+use Rattle.meaning.specs.Bytes.{Bytes}
+use Rattle.meaning.specs.Question.{Question, Conj, OneUnit, Begin, Steps, Rest, Quoted, isNameByte, isQuotable, writeQuoted}
+use Rattle.meaning.specs.Question.{writeQuestion, writeConj, writeUnit, writeBegin, writeSteps, writeRest}
+use Rattle.meaning.specs.Term.{Term, beginning, normal, normalConj, normalUnit, normalSteps, normalRest}
 use Rattle.meaning.specs.Entry.{Entry, root, flat}
 use Rattle.question.specs.declared.List as L
 use Rattle.reader.specs.declared.State.{State}
 use Rattle.reader.specs.declared.Answer.{Answer}
-use Rattle.reader.specs.Nesting.{nesting}
-use Rattle.reader.specs.Packed.{Place, placeOf, kindCode, leftOf, rightOf, placedEntries, emptyList}
-use Rattle.reader.specs.Read.{Written, refused}
+use Rattle.reader.specs.Packed.{Place, wordPlace, kindCode, leftOf, rightOf, placedEntries, emptyList}
+use Rattle.reader.specs.Read.{Written, Scan}
 
 -- THE STATE'S STEPS. An entry more: counted, and kept where there is room
 abbrev pub stored : List ℕ → ℕ → ℕ → List ℕ
@@ -36,8 +36,8 @@ abbrev pub failed : State → State
 failed s = record { ok = false; at = s .at; top = s .top; depth = s .depth; most = s .most; list = s .list }
 
 -- past an opening bracket
-abbrev pub deepened : State → State
-deepened s = record { ok = s .ok; at = s .at + 1; top = s .top; depth = s .depth + 1; most = max (s .most) (s .depth + 1); list = s .list }
+abbrev pub deepened : State → ℕ → State
+deepened s at = record { ok = s .ok; at = at; top = s .top; depth = s .depth + 1; most = max (s .most) (s .depth + 1); list = s .list }
 
 abbrev pub opened : State → ℕ → State
 opened s depth = record { ok = s .ok; at = s .at; top = s .top; depth = depth; most = s .most; list = s .list }
@@ -80,18 +80,15 @@ unfoldable mutual
   reach o (Question.either q c) m = reachConj o c (reach o q m)
 
   pub reachConj : ℕ → Conj → ℕ → ℕ
-  reachConj o (Conj.part p) m = reachPart o p m
-  reachConj o (Conj.both c p) m = reachPart o p (reachConj o c m)
+  reachConj o (Conj.unit p) m = reachUnit o p m
+  reachConj o (Conj.both c p) m = reachUnit o p (reachConj o c m)
 
-  pub reachPart : ℕ → Part → ℕ → ℕ
-  reachPart o (Part.deny p) m = reachPart o p m
-  reachPart o (Part.group q) m = reach (o + 1) q (max m (o + 1))
-  reachPart o (Part.label w) m = m
-  reachPart o (Part.text w) m = m
-  reachPart o (Part.path p) m = reachPath o p m
-
-  pub reachPath : ℕ → Path → ℕ → ℕ
-  reachPath o (Path.from b s) m = reachSteps o s m
+  pub reachUnit : ℕ → OneUnit → ℕ → ℕ
+  reachUnit o (OneUnit.deny p) m = reachUnit o p m
+  reachUnit o (OneUnit.group q) m = reach (o + 1) q (max m (o + 1))
+  reachUnit o (OneUnit.label w) m = m
+  reachUnit o (OneUnit.text w) m = m
+  reachUnit o (OneUnit.path b s) m = reachSteps o s m
 
   pub reachSteps : ℕ → Steps → ℕ → ℕ
   reachSteps o (Steps.step x r) m = reachRest o r m
@@ -102,39 +99,49 @@ unfoldable mutual
   reachRest o (Rest.bracket q r) m = reachRest o r (reach (o + 1) q (max m (o + 1)))
   reachRest o (Rest.onward g s) m = reachSteps o s m
 
+-- a path has no type of its own: it is how it begins, and its steps
+abbrev pub Path : Type 0
+Path = Begin × Steps
+
+abbrev pub writePath : Path → Bytes
+writePath p = writeBegin (p .0) ++ writeSteps (p .1)
+
+abbrev pub normalPath : ℕ → Path → Term Place
+normalPath a p = beginning wordPlace (p .0) (normalSteps wordPlace (a + length (writeBegin (p .0))) (p .1))
+
 -- THE FORMS, with their trees, texts, terms and numbers open
 pub data Form : Type 0 where
-  question conj part path steps rest : Form
+  question conj unit path steps rest : Form
 
 abbrev pub TreeOf : Form → Type 0
 TreeOf Form.question = Question
 TreeOf Form.conj = Conj
-TreeOf Form.part = Part
+TreeOf Form.unit = OneUnit
 TreeOf Form.path = Path
 TreeOf Form.steps = Steps
 TreeOf Form.rest = Rest
 
 abbrev pub textOf : (g : Form) → TreeOf g → Bytes
-textOf Form.question c = write c
+textOf Form.question c = writeQuestion c
 textOf Form.conj c = writeConj c
-textOf Form.part c = writePart c
+textOf Form.unit c = writeUnit c
 textOf Form.path c = writePath c
 textOf Form.steps c = writeSteps c
 textOf Form.rest c = writeRest c
 
 abbrev pub termOf : (g : Form) → ℕ → TreeOf g → Term Place
-termOf Form.question a c = normal placeOf a c
-termOf Form.conj a c = normalConj placeOf a c
-termOf Form.part a c = normalPart placeOf a c
-termOf Form.path a c = normalPath placeOf a c
-termOf Form.steps a c = normalSteps placeOf a c
-termOf Form.rest a c = normalRest placeOf a c
+termOf Form.question a c = normal wordPlace a c
+termOf Form.conj a c = normalConj wordPlace a c
+termOf Form.unit a c = normalUnit wordPlace a c
+termOf Form.path a c = normalPath a c
+termOf Form.steps a c = normalSteps wordPlace a c
+termOf Form.rest a c = normalRest wordPlace a c
 
 abbrev pub reachOf : (g : Form) → ℕ → TreeOf g → ℕ → ℕ
 reachOf Form.question o c m = reach o c m
 reachOf Form.conj o c m = reachConj o c m
-reachOf Form.part o c m = reachPart o c m
-reachOf Form.path o c m = reachPath o c m
+reachOf Form.unit o c m = reachUnit o c m
+reachOf Form.path o c m = reachSteps o (c .1) m
 reachOf Form.steps o c m = reachSteps o c m
 reachOf Form.rest o c m = reachRest o c m
 
@@ -156,7 +163,7 @@ pub record QuestionEnds (b : ℕ) : Type 0 where
 abbrev pub Follows : Form → ℕ → Type 0
 Follows Form.question b = QuestionEnds b
 Follows Form.conj b = ConjEnds b
-Follows Form.part b = PathEnds b
+Follows Form.unit b = PathEnds b
 Follows Form.path b = PathEnds b
 Follows Form.steps b = PathEnds b
 Follows Form.rest b = PathEnds b
@@ -176,7 +183,7 @@ MadeOf g t s r c = Made t s r (textOf g c) (termOf g (s .at) c) (reachOf g (s .d
 abbrev pub slack : Form → ℕ
 slack Form.question = 0
 slack Form.conj = 0
-slack Form.part = 0
+slack Form.unit = 0
 slack Form.path = 0
 slack Form.steps = 0
 slack Form.rest = 1
@@ -200,7 +207,7 @@ pub record Reads (g : Form) (t : Bytes) (s r : State) : Type 0 where
   pub sound : r .ok ≡ true → (s .ok ≡ true) × ((c : TreeOf g) × MadeOf g t s r c)
   pub complete : s .ok ≡ true → (c : TreeOf g) (z : Bytes) → drop (s .at) t ≡ textOf g c ++ z → Follows g (getD z 0 0) → (r .ok ≡ true) × MadeOf g t s r c
 
--- CHAINS: `|` joins conjunctions to a question, `&` parts to a conjunction
+-- CHAINS: `|` joins conjunctions to a question, `&` units to a conjunction
 pub data Chain : Type 0 where
   ors ands : Chain
 
@@ -210,7 +217,7 @@ whole Chain.ands = Form.conj
 
 abbrev pub item : Chain → Form
 item Chain.ors = Form.conj
-item Chain.ands = Form.part
+item Chain.ands = Form.unit
 
 abbrev pub sign : Chain → ℕ
 sign Chain.ors = 124
@@ -218,7 +225,7 @@ sign Chain.ands = 38
 
 abbrev pub single : (c : Chain) → TreeOf (item c) → TreeOf (whole c)
 single Chain.ors i = Question.conj i
-single Chain.ands i = Conj.part i
+single Chain.ands i = Conj.unit i
 
 abbrev pub joined : (c : Chain) → TreeOf (whole c) → TreeOf (item c) → TreeOf (whole c)
 joined Chain.ors q i = Question.either q i
@@ -248,9 +255,11 @@ pub record Quotes (t : Bytes) (s r : State) (kind : ℕ) : Type 0 where
   pub sound : r .ok ≡ true → (w : Quoted) × (r ≡ afterQuoted s kind w) × (drop (s .at) t ≡ writeQuoted w ++ drop (r .at) t)
   pub complete : (w : Quoted) (z : Bytes) → drop (s .at) t ≡ writeQuoted w ++ z → r ≡ afterQuoted s kind w
 
--- WHAT BECOMES OF A TEXT, 4 apart
-pub data Scanned (t : Bytes) : Answer → Type 0 where
-  wrong-length : (length t ≡ 0) ⊎ (255 < length t) → Scanned t (refused 1)
-  not-grammar : 1 ≤ length t → length t ≤ 255 → (Written t → ⊥) → Scanned t (refused 2)
-  too-deep : 1 ≤ length t → length t ≤ 255 → (w : Written t) → 12 < nesting (w .tree) → Scanned t (refused 3)
-  read : 1 ≤ length t → length t ≤ 255 → (w : Written t) → nesting (w .tree) ≤ 12 → Scanned t (record { refusal = 0; list = kept (placedEntries (w .tree)) emptyList })
+-- WHAT BECOMES OF A TEXT, 4 apart: all entries are counted
+abbrev pub refused : ℕ → Answer
+refused n = record { refusal = n; list = emptyList }
+
+pub record Scanned (t : Bytes) (a : Answer) : Type 0 where
+  pub why : Scan t Granted (a .refusal)
+  pub refused : a .refusal ≢ 0 → a .list ≡ emptyList
+  pub listed : a .refusal ≡ 0 → (w : Written t) → a .list ≡ kept (placedEntries (w .tree)) emptyList

@@ -29,13 +29,13 @@ module _ (t : ℕ) where
   to-requires c κs = tt
 
   unit-requires : ands-lts.Need-unit-requires (calls t) (ands-at t) ands.Post
-  unit-requires c κs = rw (c .to .ensures) (call-byte 0 4 38 (c .before .before .before .before .pre .0) (c .before .before .before .before .pre .1) (sym (c .before .before .peek .ensures) ∙ c .before .if1 .taken) (lit< tt) (lit< tt))
+  unit-requires c κs = rw (c .to .ensures) (call-byte 0 4 _ (c .before .before .before .before .pre .0) (c .before .before .before .before .pre .1) (sym (c .before .before .peek .ensures) ∙ c .before .if1 .taken) (lit< tt) (lit< tt))
 
   add-requires : ands-lts.Need-add-requires (calls t) (ands-at t) ands.Post
-  add-requires c κs = omega (arith, few-read Form.part (call-byte 0 0 38 (c .before .before .before .before .before .pre .0) (c .before .before .before .before .before .pre .1) (sym (c .before .before .before .peek .ensures) ∙ c .before .before .if1 .taken) (lit< tt) (lit< tt) .1) (rw (c .before .to .ensures) at (c .unit .ensures)))
+  add-requires c κs = omega (arith, few-read Form.unit (call-byte 0 0 _ (c .before .before .before .before .before .pre .0) (c .before .before .before .before .before .pre .1) (sym (c .before .before .before .peek .ensures) ∙ c .before .before .if1 .taken) (lit< tt) (lit< tt) .1) (rw (c .before .to .ensures) at (c .unit .ensures)))
 
   ands-requires : ands-lts.Need-ands-requires (calls t) (ands-at t) ands.Post
-  ands-requires c κs = rw (c .add .ensures) (call-again 0 0 38 7 (c .before .before .before .before .before .before .args .s .top) (c .before .unit .result .top) (c .before .before .before .before .before .before .pre .0) (c .before .before .before .before .before .before .pre .1) (sym (c .before .before .before .before .peek .ensures) ∙ c .before .before .before .if1 .taken) (lit< tt) ((rw (c .before .before .to .ensures) at (c .before .unit .ensures)) .goes) (lit< tt))
+  ands-requires c κs = rw (c .add .ensures) (call-again 0 0 _ _ _ _ (c .before .before .before .before .before .before .pre .0) (c .before .before .before .before .before .before .pre .1) (sym (c .before .before .before .before .peek .ensures) ∙ c .before .before .before .if1 .taken) (lit< tt) ((rw (c .before .before .to .ensures) at (c .before .unit .ensures)) .goes) (lit< tt))
 
   returns : ands-lts.Need-returns (calls t) (ands-at t) ands.Post
   returns c = chain-more Chain.ands (sym (c .before .before .before .before .before .peek .ensures) ∙ c .before .before .before .before .if1 .taken) (rw (c .before .before .before .to .ensures) at (c .before .before .unit .ensures)) (rw (c .before .add .ensures) at (c .ands .ensures))

@@ -29,13 +29,13 @@ module _ (t : ℕ) where
   to-requires c κs = tt
 
   conj-requires : ors-lts.Need-conj-requires (calls t) (ors-at t) ors.Post
-  conj-requires c κs = rw (c .to .ensures) (call-byte 0 5 124 (c .before .before .before .before .pre .0) (c .before .before .before .before .pre .1) (sym (c .before .before .peek .ensures) ∙ c .before .if1 .taken) (lit< tt) (lit< tt))
+  conj-requires c κs = rw (c .to .ensures) (call-byte 0 5 _ (c .before .before .before .before .pre .0) (c .before .before .before .before .pre .1) (sym (c .before .before .peek .ensures) ∙ c .before .if1 .taken) (lit< tt) (lit< tt))
 
   add-requires : ors-lts.Need-add-requires (calls t) (ors-at t) ors.Post
-  add-requires c κs = omega (arith, few-read Form.conj (call-byte 0 0 124 (c .before .before .before .before .before .pre .0) (c .before .before .before .before .before .pre .1) (sym (c .before .before .before .peek .ensures) ∙ c .before .before .if1 .taken) (lit< tt) (lit< tt) .1) (rw (c .before .to .ensures) at (c .conj .ensures)))
+  add-requires c κs = omega (arith, few-read Form.conj (call-byte 0 0 _ (c .before .before .before .before .before .pre .0) (c .before .before .before .before .before .pre .1) (sym (c .before .before .before .peek .ensures) ∙ c .before .before .if1 .taken) (lit< tt) (lit< tt) .1) (rw (c .before .to .ensures) at (c .conj .ensures)))
 
   ors-requires : ors-lts.Need-ors-requires (calls t) (ors-at t) ors.Post
-  ors-requires c κs = rw (c .add .ensures) (call-again 0 0 124 6 (c .before .before .before .before .before .before .args .s .top) (c .before .conj .result .top) (c .before .before .before .before .before .before .pre .0) (c .before .before .before .before .before .before .pre .1) (sym (c .before .before .before .before .peek .ensures) ∙ c .before .before .before .if1 .taken) (lit< tt) ((rw (c .before .before .to .ensures) at (c .before .conj .ensures)) .goes) (lit< tt))
+  ors-requires c κs = rw (c .add .ensures) (call-again 0 0 _ _ _ _ (c .before .before .before .before .before .before .pre .0) (c .before .before .before .before .before .before .pre .1) (sym (c .before .before .before .before .peek .ensures) ∙ c .before .before .before .if1 .taken) (lit< tt) ((rw (c .before .before .to .ensures) at (c .before .conj .ensures)) .goes) (lit< tt))
 
   returns : ors-lts.Need-returns (calls t) (ors-at t) ors.Post
   returns c = chain-more Chain.ors (sym (c .before .before .before .before .before .peek .ensures) ∙ c .before .before .before .before .if1 .taken) (rw (c .before .before .before .to .ensures) at (c .before .before .conj .ensures)) (rw (c .before .add .ensures) at (c .ors .ensures))
