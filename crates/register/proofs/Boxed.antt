@@ -17,7 +17,7 @@ use Rattle.question.specs.declared.List as L
 use Rattle.reader.specs.declared.Answer.{Answer}
 use Rattle.question.specs.Listed.{Keeps, listed}
 use Rattle.reader.specs.Packed.{placedEntries, packed}
-use Rattle.reader.specs.Read.{Written, Read}
+use Rattle.reader.specs.Read.{Written, ReadRefusal, Read}
 use Rattle.reader.proofs.Outcome.{one-read, read-taken, taken-list, read-keeps}
 use Rattle.reply.specs.Read.{Is}
 use Rattle.reply.proofs.Round.{size-is}
@@ -31,19 +31,19 @@ use Rattle.desk.proofs.Unique.{one-open-refusal}
 use Rattle.whole.specs.declared.Record.{Record}
 use Rattle.register.specs.Calls.{Event, Calls, HandedIn}
 use Rattle.register.specs.Round.{Round, callOf, total, Meaning}
-use Rattle.register.specs.Promise.{Good, OneBox, AllTaken, ownSize, Condition2}
+use Rattle.register.specs.Promise.{OneBox, AllTaken, ownSize, Condition2}
 use Rattle.register.proofs.Laid.{replyOf, bytesOf, Asked, LaidRoom, LaidHonest}
 use Rattle.register.proofs.Verdicts.{is-laid, same-reply, laid-fragment, laid-entries}
 use Rattle.register.proofs.Trace.{laid-faithful, handedBytes}
 use Rattle.register.proofs.Alone.{boxed, no-ins, boxed-cut, alone-joined}
 use Rattle.register.proofs.Conditions.{readers-last}
 
-module _ (t : Bytes) (good : Good t) (F : Fragment) (sound : Sound 0 F) (none : NoStandIn F) (number : ℕ) (some : 0 < number) (fits : number < 2 ^ 32) where
+module _ (t : Bytes) (taken : ReadRefusal t 0) (written : Written t) (F : Fragment) (sound : Sound 0 F) (none : NoStandIn F) (number : ℕ) (some : 0 < number) (fits : number < 2 ^ 32) where
   abbrev tree-list : L.List
-  tree-list = packed (placedEntries (good .written .tree))
+  tree-list = packed (placedEntries (written .tree))
 
   reads : Read t (record { refusal = 0; list = tree-list })
-  reads = taken-list (read-taken (good .written) (good .some-byte, good .few-bytes) (good .shallow) (good .few-entries)) (good .written)
+  reads = taken-list taken written
 
   abbrev R : Round
   R = record { register = boxed F; list = tree-list; text = t; number = number }
@@ -67,7 +67,7 @@ module _ (t : Bytes) (good : Good t) (F : Fragment) (sound : Sound 0 F) (none : 
       zeroth f h = omega arith
 
   abbrev own : ℕ
-  own = ownSize (length (placedEntries (good .written .tree)))
+  own = ownSize (length (placedEntries (written .tree)))
 
   short : length (bytesOf R 0) ≤ own
   unfolding laidDown packed
@@ -93,7 +93,7 @@ module _ (t : Bytes) (good : Good t) (F : Fragment) (sound : Sound 0 F) (none : 
 
   -- ---- the calls in turn
   module _ (old : Record) (above : old .last < number) (work : List ℕ) (out store : Bytes)
-      (memory : 4 * (rowCount F * length (placedEntries (good .written .tree))) + 12288 ≤ length work) (buffer : own ≤ length out) (room : own ≤ length store)
+      (memory : 4 * (rowCount F * length (placedEntries (written .tree))) + 12288 ≤ length work) (buffer : own ≤ length out) (room : own ≤ length store)
       (b : OneBox t F old number work out store) where
     is-read : b .read ≡ record { refusal = 0; list = tree-list }
     is-read = one-read t (b .read) (record { refusal = 0; list = tree-list }) (b .reading) reads
@@ -144,13 +144,13 @@ module _ (t : Bytes) (good : Good t) (F : Fragment) (sound : Sound 0 F) (none : 
         zeroth : (f : ℕ) → f < 1 → f ≡ 0
         zeroth f h = omega arith
 
-    meant : Meaning R ↔ Holds (alone (rowsOf F)) (good .written .tree) 0
+    meant : Meaning R ↔ Holds (alone (rowsOf F)) (written .tree) 0
     meant =
         let j = alone-joined F sound none (term (listed tree-list t) (tree-list .count - 1)) in
-        let k = readers-last R (record { refusal = 0; list = tree-list }) reads refl refl (good .written) (alone (rowsOf F)) 0 in
+        let k = readers-last R (record { refusal = 0; list = tree-list }) reads refl refl written (alone (rowsOf F)) 0 in
         (λ y. k .0 (j .0 y), λ y. j .1 (k .1 y))
 
-    pub right : AllTaken (Holds (alone (rowsOf F)) (good .written .tree) 0) b
+    pub right : AllTaken (Holds (alone (rowsOf F)) (written .tree) 0) b
     right = record {
       read-taken = ap (λ z. z .refusal) is-read;
       reply-taken = reply-taken;
@@ -161,4 +161,4 @@ module _ (t : Bytes) (good : Good t) (F : Fragment) (sound : Sound 0 F) (none : 
     }
 
 pub condition-2 : Condition2
-condition-2 t good F sound none old number above fits work out store memory buffer room b = right t good F sound none number (omega (arith, above)) fits old above work out store memory buffer room b
+condition-2 t taken w F sound none old number above fits work out store memory buffer room b = right t taken w F sound none number (omega (arith, above)) fits old above work out store memory buffer room b

@@ -8,19 +8,24 @@ use lib.ListN.{length}
 use Rattle.meaning.specs.Bytes.{Bytes}
 use Rattle.meaning.specs.Holds.{Holds}
 use Rattle.meaning.specs.Reply.{Reply}
-use Rattle.meaning.specs.Register.{parts, Cut, joined}
+use Rattle.meaning.specs.Register.{parts, rowsIn, Cut, joined}
+use Rattle.meaning.specs.Bound.{stepBound}
+use Rattle.meaning.proofs.Bound.{step-bound}
+use Rattle.question.specs.Listed.{listed}
+use Rattle.question.proofs.Listed.{listed-length, keeps-earlier}
+use Rattle.reply.proofs.Round.{one-reply}
 use Rattle.reader.specs.Read.{Written, Read}
 use Rattle.reader.specs.declared.Answer.{Answer}
 use Rattle.reply.specs.Read.{Is}
 use Rattle.desk.specs.Calls.{Accepts}
 use Rattle.whole.specs.declared.Record.{Record}
 use Rattle.register.specs.Calls.{Event, HandedIn}
-use Rattle.register.specs.Round.{Round, Replied, SentBy, PartIn, Honest, Roomy, Meaning, total}
-use Rattle.register.specs.Promise.{Tells, Faithful, Kept, Condition3}
-use Rattle.register.proofs.Laid.{replyOf, bytesOf, Asked, LaidRoom, LaidHonest, LaidFaithful, sent-is, is-sent, all-asked}
+use Rattle.register.specs.Round.{Round, callOf, Replied, SentBy, PartIn, Honest, Roomy, Meaning, total}
+use Rattle.register.specs.Promise.{Tells, Faithful, Kept, Condition3, Bounded, StepsBounded}
+use Rattle.register.proofs.Laid.{Granting, granting, replyOf, bytesOf, Asked, LaidRoom, LaidHonest, LaidFaithful, sent-is, is-sent, all-asked}
 use Rattle.register.proofs.Verdicts.{is-laid, same-reply, laid-fragment}
 use Rattle.register.proofs.Trace.{laid-faithful}
-use Rattle.register.proofs.Conditions.{readers-last}
+use Rattle.register.proofs.Conditions.{readers-last, depot-bytes}
 
 -- a sum is at most another where each of its terms is
 total-less : (f g : ℕ → ℕ) (n : ℕ) → ((k : ℕ) → k < n → f k ≤ g k) → total f n ≤ total g n
@@ -80,3 +85,26 @@ condition-3 R cut fits p old d store o r l e x c h = record {
   where
     w : LaidFaithful R l e x
     w = laid-faithful R (asked R cut fits p) old d store o (room R cut fits p store r) l e x c (honest R cut fits p l h)
+
+-- ---- the step bound
+pub steps-bounded : StepsBounded
+steps-bounded R f s fits b = record {
+  isOpen = bound .0;
+  tells = bound .1;
+  bounded = λ r i. subst (λ n. length (r .steps) ≤ stepBound n (rowsIn (R .register) f) (bound .0)) (listed-length (R .list) (R .text))
+      (subst (λ t. length (t .steps) ≤ stepBound (length es) (rowsIn (R .register) f) (bound .0)) (sym (is r i)) (bound .2));
+}
+  where
+    es = listed (R .list) (R .text)
+
+    c = b .called
+
+    g : Granting (callOf R f)
+    g = granting (callOf R f) (c .work) (c .out) (c .size) (c .work′) (c .out′) (c .replying)
+
+    bound = step-bound (R .number) f (R .register .fragment f) (g .sound) es (keeps-earlier (R .list) (R .text) (g .keeps))
+
+    is : (r : Reply) → Is 12 s r → r ≡ replyOf R f
+    is r i =
+        let j = subst (λ z. Is 12 z (replyOf R f)) (sym (b .is)) (depot-bytes (callOf R f) fits (c .work) (c .out) (c .size) (c .work′) (c .out′) (c .replying)) in
+        one-reply 12 r (replyOf R f) (i .formed) (j .formed) (i .fits) (j .fits) (i .writes ∙ sym (j .writes))

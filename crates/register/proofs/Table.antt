@@ -24,35 +24,34 @@ use Rattle.meaning.proofs.Lawful.{desk-answer}
 use Rattle.question.specs.Listed.{Keeps, listed}
 use Rattle.reader.specs.Nesting.{nesting}
 use Rattle.reader.specs.Packed.{placedEntries, packed}
-use Rattle.reader.specs.Read.{Written, Read}
+use Rattle.reader.specs.Read.{Written, ReadRefusal, Read}
 use Rattle.reader.proofs.Outcome.{read-taken, taken-list, read-keeps, read-listed}
 use Rattle.question.proofs.Listed.{listed-length, keeps-earlier}
 use Rattle.meaning.proofs.Bound.{bounded, no-steps}
 use Rattle.register.specs.Round.{Round, callOf}
 use Rattle.register.proofs.Laid.{replyOf, Asked, all-replied}
-use Rattle.register.specs.Promise.{Good}
 use Rattle.register.specs.Trial.{fragment, register, round, Case, Table}
 use Rattle.register.proofs.Tried.{cut, isOpen, tells, one-box, none-1, none-2}
 
 -- ---- condition 3 applies: fragment 0 keeps the bound, the others make no step
-module _ (text : Bytes) (good : Good text) where
-  reads : Read text (record { refusal = 0; list = packed (placedEntries (good .written .tree)) })
-  reads = taken-list (read-taken (good .written) (good .some-byte, good .few-bytes) (good .shallow) (good .few-entries)) (good .written)
+module _ (text : Bytes) (taken : ReadRefusal text 0) (w : Written text) where
+  reads : Read text (record { refusal = 0; list = packed (placedEntries (w .tree)) })
+  reads = taken-list taken w
 
-  keeps : Keeps (round text good .list) text
-  keeps = read-keeps text (round text good .list) reads
+  keeps : Keeps (round text w .list) text
+  keeps = read-keeps text (round text w .list) reads
 
-  few : (f : ℕ) → f < 3 → length (replyOf (round text good) f .steps) ≤ 4096
+  few : (f : ℕ) → f < 3 → length (replyOf (round text w) f .steps) ≤ 4096
   unfolding count standIns
   few zero h =
-      let es = listed (round text good .list) text in
-      let b : length (replyOf (round text good) 0 .steps) ≤ length es * 12 = bounded 1 0 (fragment 0) (cut .sound 0 (lit< tt)) es (keeps-earlier (round text good .list) text keeps) isOpen tells in
-      omega (arith, b, listed-length (round text good .list) text, keeps .most)
-  few (suc zero) h = omega (arith, no-steps 1 (fragment 1) (cut .sound 1 (lit< tt)) none-1 (listed (round text good .list) text) (keeps-earlier (round text good .list) text keeps) 1)
-  few (suc (suc zero)) h = omega (arith, no-steps 2 (fragment 2) (cut .sound 2 (lit< tt)) none-2 (listed (round text good .list) text) (keeps-earlier (round text good .list) text keeps) 1)
+      let es = listed (round text w .list) text in
+      let b : length (replyOf (round text w) 0 .steps) ≤ length es * 12 = bounded 1 0 (fragment 0) (cut .sound 0 (lit< tt)) es (keeps-earlier (round text w .list) text keeps) isOpen tells in
+      omega (arith, b, listed-length (round text w .list) text, keeps .most)
+  few (suc zero) h = omega (arith, no-steps 1 (fragment 1) (cut .sound 1 (lit< tt)) none-1 (listed (round text w .list) text) (keeps-earlier (round text w .list) text keeps) 1)
+  few (suc (suc zero)) h = omega (arith, no-steps 2 (fragment 2) (cut .sound 2 (lit< tt)) none-2 (listed (round text w .list) text) (keeps-earlier (round text w .list) text keeps) 1)
   few (suc (suc (suc f))) h = absurd (omega arith)
 
-  asked : Asked (round text good)
+  asked : Asked (round text w)
   asked = record { cut = cut; keeps = keeps; some-number = lit< tt; number-fits = lit< tt; few-steps = few }
 
 -- ---- a case, from its tree and the outcome computed
@@ -64,10 +63,13 @@ isYes waiting = false
 isYes (said b) = b
 
 case : {text : Bytes} {answer : Bool} (q : Question) → writeQuestion q ≡ text → 1 ≤ length text → length text ≤ 255 → nesting q ≤ 12 → length (placedEntries q) ≤ 32 → heardAll q ≡ said answer → Case text answer
-case {text} {answer} q w a b c d e = record { good = good; replied = all-replied (round text good) (asked text good); right = subst (Says (Holds (joined register) q (0, 0))) (ap isYes (sym (desk-answer register cut q 1 .1) ∙ e)) (desk-answer register cut q 1 .2) }
+case {text} {answer} q w a b c d e = record { taken = taken; written = written; replied = all-replied (round text written) (asked text taken written); right = subst (Says (Holds (joined register) q (0, 0))) (ap isYes (sym (desk-answer register cut q 1 .1) ∙ e)) (desk-answer register cut q 1 .2) }
   where
-    good : Good text
-    good = record { written = record { tree = q; writes = w }; some-byte = a; few-bytes = b; shallow = c; few-entries = d }
+    written : Written text
+    written = record { tree = q; writes = w }
+
+    taken : ReadRefusal text 0
+    taken = read-taken written (a, b) c d
 
 -- ---- the trees
 abbrev name : (w : Bytes) → T (isName w) → Move
@@ -181,11 +183,11 @@ unfolding writeQuestion normal root flat nesting sameBytes labelIs textIs stepVa
 case-l = case (one (path (step site (Rest.bracket (both (path (step lift (then mark Rest.end))) (path (step lift (then brake (Rest.ends b17))))) Rest.end)))) refl (lit≤ tt) (lit≤ tt) (lit≤ tt) (lit≤ tt) refl
 
 -- ---- a's entries, and m
-a-tree : case-a .good .written .tree ≡ one (deep (step lift (Rest.bracket (one (path (step brake (Rest.ends b17)))) Rest.end)))
+a-tree : case-a .written .tree ≡ one (deep (step lift (Rest.bracket (one (path (step brake (Rest.ends b17)))) Rest.end)))
 unfolding case-a case
 a-tree = refl
 
-a-entries : length (placedEntries (case-a .good .written .tree)) ≡ 10
+a-entries : length (placedEntries (case-a .written .tree)) ≡ 10
 unfolding writeQuestion normal root flat lift brake b17
 a-entries = rw a-tree refl
 
@@ -196,9 +198,9 @@ a-steps : steps-of (one (deep (step lift (Rest.bracket (one (path (step brake (R
 unfolding steps-of writeQuestion normal root flat sameBytes labelIs textIs visit push row deliver sweep run standIns tabulated laidDown lift brake b17
 a-steps = refl
 
-m-steps : length (replyOf (round _ (case-a .good)) 0 .steps) ≡ 21
+m-steps : length (replyOf (round _ (case-a .written)) 0 .steps) ≡ 21
 unfolding steps-of
-m-steps = ap (λ es. length (laidDown (rowsIn register 0) es 1 0 .steps)) (read-listed _ _ (reads _ (case-a .good)) (case-a .good .written)) ∙ ap steps-of a-tree ∙ a-steps
+m-steps = ap (λ es. length (laidDown (rowsIn register 0) es 1 0 .steps)) (read-listed _ _ (reads _ (case-a .taken) (case-a .written)) (case-a .written)) ∙ ap steps-of a-tree ∙ a-steps
 
 m-bound : stepBound 10 (rowsIn register 0) isOpen ≡ 120
 unfolding count standIns

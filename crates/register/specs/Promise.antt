@@ -16,9 +16,8 @@ use Rattle.meaning.specs.Bound.{Open, stepBound}
 use Rattle.meaning.specs.Fragment.{Fragment, Sound, rowCount, rowsOf, alone, NoStandIn}
 use Rattle.meaning.specs.Reply.{Reply}
 use Rattle.meaning.specs.Register.{parts, rowsIn, Cut, joined}
-use Rattle.reader.specs.Nesting.{nesting}
 use Rattle.reader.specs.Packed.{placedEntries}
-use Rattle.reader.specs.Read.{Written, Read}
+use Rattle.reader.specs.Read.{Written, ReadRefusal, Read}
 use Rattle.reader.specs.declared.Answer.{Answer}
 use Rattle.reply.specs.Read.{Is, Reading}
 use Rattle.depot.specs.Answer.{Call, call, laid, Answered}
@@ -32,14 +31,6 @@ abbrev pub Tells : Type 0 → ℕ → Type 0
 Tells A a = ((a ≡ 2) × A) ⊎ ((a ≡ 1) × (A → ⊥))
 
 -- ---- CONDITION 2
--- a text of the grammar that is not too deep or too long
-pub record Good (t : Bytes) : Type 0 where
-  pub written : Written t
-  pub some-byte : 1 ≤ length t
-  pub few-bytes : length t ≤ 255
-  pub shallow : nesting (written .tree) ≤ 12
-  pub few-entries : length (placedEntries (written .tree)) ≤ 32
-
 -- a register in one box: the calls in turn, each with any result that its contract allows
 pub record OneBox (t : Bytes) (F : Fragment) (old : Record) (number : ℕ) (work : List ℕ) (out store : Bytes) : Type 0 where
   pub read : Answer
@@ -74,13 +65,14 @@ pub record AllTaken (A : Type 0) {t : Bytes} {F : Fragment} {old : Record} {numb
 abbrev pub ownSize : ℕ → ℕ
 ownSize n = (60 + 28 * n + 7) / 8
 
--- for every such text and every sound fragment without stand-ins: yes exactly when the question holds at row 0, by 004's definition
+-- for every text that the reader has no reason to refuse, and every sound fragment without stand-ins: yes exactly when the question holds at
+-- row 0, by 004's definition
 abbrev pub Condition2 : Type 0
-Condition2 = (t : Bytes) (good : Good t) (F : Fragment) → Sound 0 F → NoStandIn F
+Condition2 = (t : Bytes) → ReadRefusal t 0 → (w : Written t) (F : Fragment) → Sound 0 F → NoStandIn F
     → (old : Record) (number : ℕ) → old .last < number → number < 2 ^ 32 → (work : List ℕ) (out store : Bytes)
-    → 4 * (rowCount F * length (placedEntries (good .written .tree))) + 12_288 ≤ length work
-    → ownSize (length (placedEntries (good .written .tree))) ≤ length out → ownSize (length (placedEntries (good .written .tree))) ≤ length store
-    → (b : OneBox t F old number work out store) → AllTaken (Holds (alone (rowsOf F)) (good .written .tree) 0) b
+    → 4 * (rowCount F * length (placedEntries (w .tree))) + 12_288 ≤ length work
+    → ownSize (length (placedEntries (w .tree))) ≤ length out → ownSize (length (placedEntries (w .tree))) ≤ length store
+    → (b : OneBox t F old number work out store) → AllTaken (Holds (alone (rowsOf F)) (w .tree) 0) b
 
 -- a depot's reply is the one laid down, byte for byte
 abbrev pub DepotBytes : Type 0

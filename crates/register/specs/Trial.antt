@@ -11,9 +11,9 @@ use Rattle.meaning.specs.Bound.{Open, stepBound}
 use Rattle.meaning.specs.Fragment.{Fragment, Sound, NoStandIn}
 use Rattle.meaning.specs.Register.{Register, rowsIn, Cut, joined}
 use Rattle.reader.specs.Packed.{placedEntries, packed}
+use Rattle.reader.specs.Read.{Written, ReadRefusal}
 use Rattle.depot.specs.Answer.{laid}
 use Rattle.register.specs.Round.{Round, callOf, Replied}
-use Rattle.register.specs.Promise.{Good}
 
 abbrev pub pool : Bytes
 pool = ascii "firmsiteliftbrakeB17B09markdone"
@@ -28,14 +28,15 @@ abbrev pub register : Register
 register = record { layout = 255 ∷ 0 ∷ 0 ∷ []; fragment = fragment }
 
 -- a text's list put to the register as question 1
-abbrev pub round : (text : Bytes) → Good text → Round
-round text good = record { register = register; list = packed (placedEntries (good .written .tree)); text = text; number = 1 }
+abbrev pub round : (text : Bytes) → Written text → Round
+round text w = record { register = register; list = packed (placedEntries (w .tree)); text = text; number = 1 }
 
 -- the reader takes the text, no depot refuses it, and at the top row of the joined register it holds, or does not
 pub record Case (text : Bytes) (answer : Bool) : Type 0 where
-  pub good : Good text
-  pub replied : (f : ℕ) → f < 3 → Replied (round text good) f
-  pub right : Says (Holds (joined register) (good .written .tree) (0, 0)) answer
+  pub taken : ReadRefusal text 0
+  pub written : Written text
+  pub replied : (f : ℕ) → f < 3 → Replied (round text written) f
+  pub right : Says (Holds (joined register) (written .tree) (0, 0)) answer
 
 -- THE SINGLE TABLE
 pub record Table : Type 0 where
@@ -52,8 +53,8 @@ pub record Table : Type 0 where
   pub k : Case (ascii "site[lift/mark]&site[lift/brake/text()=\"B17\"]") true
   pub l : Case (ascii "site[lift/mark&lift/brake/text()=\"B17\"]") false
   -- a has 10 entries; m: for a, fragment 0 makes 21 steps, and the bound is 120
-  pub a-entries : length (placedEntries (a .good .written .tree)) ≡ 10
-  pub m-steps : length (laid (callOf (round _ (a .good)) 0) .steps) ≡ 21
+  pub a-entries : length (placedEntries (a .written .tree)) ≡ 10
+  pub m-steps : length (laid (callOf (round _ (a .written)) 0) .steps) ≡ 21
   pub isOpen : ℕ → Bool
   pub tells : (k : ℕ) → k < 4 → Says (Open (rowsIn register 0) k) (isOpen k)
   pub m-bound : stepBound 10 (rowsIn register 0) isOpen ≡ 120
