@@ -1,5 +1,5 @@
 -- What a kind's code is, from the tests that the code makes of it.
-use Prim.Native.Nat.{ℕ, zero, suc, _+_, _≤_, _<_}
+use Prim.Native.Nat.{ℕ, zero, suc, _+_, _*_, _≤_, _<_}
 use native.Mathlib.Omega.{arith}
 use mathlib.Core.Path.{_≡_, refl, _∙_, subst}
 use mathlib.Core.Bool.{Bool}
@@ -71,6 +71,15 @@ module _ (size base i j t : ℕ) (m : List ℕ) (n : ℕ) where
   told-value (suc zero) h = refl
   told-value (suc (suc zero)) h = refl
   told-value (suc (suc (suc k))) h = absurd (omega arith)
+
+  -- child and lower, at the place that was read
+  pub child-value : {k place : ℕ} → k ≡ 3 → place ≡ size + base + i → got m n (getD m place 0) ≡ valueF size base (kindOf k) i j t m n
+  unfolding kindOf
+  child-value e p = rw (e, p)
+
+  pub lower-value : {k place : ℕ} → k ≡ 5 → place ≡ 2 * size + base + i → got m n (getD m place 0) ≡ valueF size base (kindOf k) i j t m n
+  unfolding kindOf
+  lower-value e p = rw (e, p)
 
   -- at and and, where it is no or
   pub both-value : (k e : ℕ) → 3 ≤ k → (k ≡ 3 → ⊥) → (k ≡ 5 → ⊥) → (k ≡ 8 → ⊥) → (k ≡ 6 → ⊥) → Reads e (kindOf k) i j

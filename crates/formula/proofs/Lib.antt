@@ -3,6 +3,7 @@ pub mod KindTests
 pub mod Loops
 pub mod Words
 pub mod Counts
+pub mod Joins
 pub mod Held
 pub mod Grows
 pub mod Visits

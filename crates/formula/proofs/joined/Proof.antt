@@ -1,5 +1,5 @@
-use borrow.Author.Tests.{eq-eqb, ne-eqb}
-use Rattle.formula.specs.inner.Flat.{joinF}
+use native.Mathlib.Omega.{arith}
+use Rattle.formula.proofs.Joins.{left-decides, left-leaves, right-decides, right-leaves, no-constant}
 use borrow.Author.Needs.{needs}
 use Rattle.formula.proofs.joined.Statement.{statement}
 use Rattle.formula.proofs.joined.Tie as tie
@@ -11,20 +11,16 @@ sub-leaves : tie.Need-sub-leaves
 sub-leaves c = search needs
 
 returns : tie.Need-returns
-unfolding joinF
-returns c = record { is = simp (eq-eqb _ _ (c .if1 .taken)); count = search needs }
+returns c = record { is = left-decides _ _ _ _ _ _ (omega arith); count = search needs }
 
 returns-2 : tie.Need-returns-2
-unfolding joinF
-returns-2 c = record { is = simp (ne-eqb _ _ (c .before .if1 .left), eq-eqb _ _ (c .if2 .taken)); count = search needs }
+returns-2 c = record { is = left-leaves _ _ _ _ _ _ (λ e. omega arith) (omega arith); count = search needs }
 
 returns-3 : tie.Need-returns-3
-unfolding joinF
-returns-3 c = record { is = simp (ne-eqb _ _ (c .before .before .if1 .left), ne-eqb _ _ (c .before .if2 .left), eq-eqb _ _ (c .if3 .taken)); count = search needs }
+returns-3 c = record { is = right-decides _ _ _ _ _ _ (λ e. omega arith) (λ e. omega arith) (omega arith); count = search needs }
 
 returns-4 : tie.Need-returns-4
-unfolding joinF
-returns-4 c = record { is = simp (ne-eqb _ _ (c .before .before .before .if1 .left), ne-eqb _ _ (c .before .before .if2 .left), ne-eqb _ _ (c .before .if3 .left), eq-eqb _ _ (c .if4 .taken)); count = search needs }
+returns-4 c = record { is = right-leaves _ _ _ _ _ _ (λ e. omega arith) (λ e. omega arith) (λ e. omega arith) (omega arith); count = search needs }
 
 added-requires : tie.Need-added-requires
 added-requires c κs = search needs
@@ -33,8 +29,7 @@ same-length : tie.Need-same-length
 same-length c = search needs
 
 returns-5 : tie.Need-returns-5
-unfolding joinF
-returns-5 c = record { is = simp (ne-eqb _ _ (c .before .before .before .before .before .before .before .if1 .left), ne-eqb _ _ (c .before .before .before .before .before .before .if2 .left), ne-eqb _ _ (c .before .before .before .before .before .if3 .left), ne-eqb _ _ (c .before .before .before .before .if4 .left)) (c .before .before .added .ensures .is); count = search needs }
+returns-5 c = record { is = no-constant _ _ _ _ _ _ (λ e. omega arith) (λ e. omega arith) (λ e. omega arith) (λ e. omega arith) (c .before .before .added .ensures .is); count = search needs }
 
 pub joined-spec : {M : Type 1} → statement M
 joined-spec =

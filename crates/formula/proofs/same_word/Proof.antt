@@ -14,10 +14,10 @@ abbrev μ-loop : tie.MeasureT-loop
 μ-loop text a len pool b size i₀ i = len - i
 
 returns : tie.Need-returns Inv-loop μ-loop
-returns c = words-length _ _ _ _ _ _ (c .before .pre .0) (c .before .pre .1) (c .if1 .taken)
+returns c = words-length _ _ _ _ _ _ (c .before .pre .0) (c .before .pre .1) (λ e. omega arith)
 
 loop-holds : tie.Need-loop-holds Inv-loop μ-loop
-loop-holds c = (search needs, words-start (c .before .args .text .now) (c .before .args .pool .now) (c .before .args .a) (c .before .args .b) _ _ (c .if1 .left))
+loop-holds c = (search needs, words-start (c .before .args .text .now) (c .before .args .pool .now) (c .before .args .a) (c .before .args .b) (c .before .args .len) (c .before .args .size) (omega arith))
 
 add-x : tie.Need-add-x Inv-loop μ-loop
 add-x c = search needs

@@ -1,7 +1,7 @@
 use native.Mathlib.Omega.{arith}
 use mathlib.Core.Path.{_∙_}
 use Rattle.question.specs.Listed.{kindOf}
-use Rattle.formula.proofs.KindTests.{left-reads, right-reads, told-value, both-value}
+use Rattle.formula.proofs.KindTests.{left-reads, right-reads, told-value, child-value, lower-value, both-value}
 use borrow.Author.Needs.{needs}
 use Rattle.formula.proofs.value.Statement.{statement}
 use Rattle.formula.proofs.value.Tie as tie
@@ -28,8 +28,7 @@ slice-read-child : tie.Need-slice-read-child
 slice-read-child c = omega (arith, left-reads _ _ _ _ (c .before .before .if1 .left) (c .before .before .before .before .pre .1 .2), c .before .before .before .before .pre .1 .1)
 
 returns-2 : tie.Need-returns-2
-unfolding kindOf
-returns-2 c = record { is = rw (c .before .if2 .taken); count = search needs }
+returns-2 c = record { is = child-value _ _ _ _ _ _ _ (c .before .if2 .taken) (omega arith); count = search needs }
 
 add-lower : tie.Need-add-lower
 add-lower c = omega (arith, left-reads _ _ _ _ (c .before .before .if1 .left) (c .before .before .before .before .pre .1 .2), c .before .before .before .before .pre .1 .1)
@@ -41,8 +40,7 @@ slice-read-lower : tie.Need-slice-read-lower
 slice-read-lower c = omega (arith, left-reads _ _ _ _ (c .before .before .before .if1 .left) (c .before .before .before .before .before .pre .1 .2), c .before .before .before .before .before .pre .1 .1)
 
 returns-3 : tie.Need-returns-3
-unfolding kindOf
-returns-3 c = record { is = rw (c .before .if3 .taken); count = search needs }
+returns-3 c = record { is = lower-value _ _ _ _ _ _ _ (c .before .if3 .taken) (omega arith); count = search needs }
 
 add-a : tie.Need-add-a
 add-a c = omega (arith, left-reads _ _ _ _ (c .before .before .if1 .left) (c .before .before .before .before .pre .1 .2), c .before .before .before .before .pre .1 .1)
