@@ -16,7 +16,7 @@ ghost use Rattle.whole.specs.inner.Steps.{StandsFor, Judged, Starts, Apa
 // where its reply starts in the store and how many bytes it has.
 #[repr(C)]
 pub struct Question {
-    pub number: u32,
+    pub number: u64,
     pub entries: usize,
     pub parts: usize,
     pub layout: [u8; 32],
@@ -28,7 +28,7 @@ pub struct Question {
 // The last number opened, how many bytes of the store are used, and the question.
 #[repr(C)]
 pub struct Record {
-    pub last: u32,
+    pub last: u64,
     pub used: usize,
     pub question: Question,
 }
@@ -146,7 +146,7 @@ pub fn judge(q: Question, s: &[u8]) -> u8
     let f = h.fragment as usize;
     let k = h.ins;
     let parts = q.parts;
-    if h.number != q.number {
+    if h.number as u64 != q.number {
         return 14;
     }
     if parts <= f {

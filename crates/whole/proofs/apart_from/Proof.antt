@@ -1,4 +1,4 @@
--- `desk::whole::apart_from` meets its contract.
+-- `whole::apart_from` meets its contract.
 use Prim.Native.Nat.{ℕ, _-_, _≤_, _<_}
 use mathlib.Core.Path.{_≡_}
 use native.Mathlib.Omega.{arith}

@@ -1,4 +1,4 @@
--- `desk::whole::followed` meets its contract.
+-- `whole::followed` meets its contract.
 use Prim.Native.Nat.{_+_}
 use mathlib.Core.Path.{_≡_, _∙_}
 use mathlib.Core.Logic.{inl, inr, ⊎-elim}

@@ -1,4 +1,4 @@
--- `desk::whole::starts` meets its contract.
+-- `whole::starts` meets its contract.
 use Prim.Native.Nat.{ℕ, _-_, _≤_, _<_}
 use mathlib.Core.Path.{_≡_}
 use native.Mathlib.Omega.{arith}

@@ -2,7 +2,6 @@
 use Prim.Native.Nat.{ℕ, _+_, _≤_, _<_}
 use mathlib.Core.Path.{_≡_}
 use mathlib.Core.Logic.{_⊎_}
-use lib.ListN.{length}
 use Rattle.meaning.specs.Bytes.{Bytes}
 use Rattle.reply.specs.inner.Decode.{inAt}
 use Rattle.meaning.specs.Refused.{Granted}
@@ -37,9 +36,3 @@ pub record FragmentOk (q : Question) (used : ℕ) (store : Bytes) (f : ℕ) : Ty
   pub part : PartOk q used store f
   pub apart : (g : ℕ) → Heard q g → (g ≡ f → ⊥) → Apart (Heard q) (placeOf q) (sizeOf q) f g
   pub follows : (placeOf q f + sizeOf q f ≡ used) ⊎ Starts (Heard q) (placeOf q) (sizeOf q) (placeOf q f + sizeOf q f)
-
--- an array's length, which a record's type does not tell
-pub record Sizes (q : Question) : Type 0 where
-  pub heard-all : length (q .heard) ≡ 32
-  pub place-all : length (q .place) ≡ 32
-  pub size-all : length (q .size) ≡ 32
