@@ -11,9 +11,9 @@ use Rattle.meaning.specs.Bytes.{Bytes}
 use Rattle.meaning.specs.Reply.{Reply}
 use Rattle.meaning.specs.Refused.{Unless}
 use Rattle.whole.specs.Tiles.{In, Tiled}
-use Rattle.whole.specs.Whole.{Keeps, Rules, layoutOf, Shaped, Free, Heard, placeOf, sizeOf, partOf, Own, Laid, Opened, Whole}
+use Rattle.whole.specs.Whole.{OpenRules, Rules, layoutOf, Shaped, Heard, placeOf, sizeOf, partOf, Own, Laid, Opened, Whole, Sizes}
 use Rattle.desk.specs.Changed.{openedAs, noted, putAt}
-use Rattle.whole.specs.inner.Steps.{Sizes}
+use Rattle.whole.proofs.Pieces.{own-reply, reply-own}
 use Rattle.reply.specs.Read.{Is}
 use Rattle.desk.specs.Calls.{Opens, Accepts, Why}
 use Rattle.desk.specs.Promise.{FreshWhole, AfterTheLast, OpeningWhole, RefusedOpeningKeeps, AcceptingKeeps}
@@ -52,11 +52,11 @@ silent f h = absurd (h .1 (getD-replicate 32 f 0 0 (h .0)))
 
 pub opening-whole : OpeningWhole
 opening-whole d layout entries number a o store = subst (λ z. Whole z store) (sym (o .opened refl)) (Whole.opened (λ z. omega (arith, above, z)) (record {
-  rules = record { few-parts = k .layout-keeps .most; keeps = subst (λ z. Keeps z entries) (sym whole) k };
+  rules = record { few-parts = k .layout-keeps .most; keeps = subst (λ z. OpenRules z entries) (sym whole) k };
   laid = record { fits = omega arith; replies = λ f h. silent f h; tiled = record { inside = λ f h. silent f h; covered = λ x h. absurd (omega arith); apart = λ f g x i j. silent f (i .is) } };
 }))
   where
-    k : Keeps layout entries
+    k : OpenRules layout entries
     k = through (λ z. omega (arith, z)) (o .why) .0
 
     above : d .last < number
@@ -130,12 +130,12 @@ module _ (d : Record) (store s : Bytes) (wide : Sizes (d .question)) (p : Passed
   shaped-kept x = record { fragment-in = x .fragment-in; entries-same = x .entries-same; children = x .children }
 
   own-new : Own q′ store′ f
-  own-new = record { reply = p .reply; free = record { is = subst (λ z. Is 12 z (p .reply)) (sym part-new) (p .is); number-same = p .number-same; shaped = shaped-kept (p .shaped) }; own = refl }
+  own-new = reply-own (record { reply = p .reply; free = record { is = subst (λ z. Is 12 z (p .reply)) (sym part-new) (p .is); number-same = p .number-same; shaped = shaped-kept (p .shaped) }; own = refl })
 
   own-kept : {g : ℕ} → Heard q g → Own q′ store′ g
   own-kept {g} h =
-      let w = o .laid .replies g h in
-      record { reply = w .reply; free = record { is = subst (λ z. Is 12 z (w .reply)) (sym (part-kept h)) (w .free .is); number-same = w .free .number-same; shaped = shaped-kept (w .free .shaped) }; own = w .own }
+      let w = own-reply (o .laid .replies g h) in
+      reply-own (record { reply = w .reply; free = record { is = subst (λ z. Is 12 z (w .reply)) (sym (part-kept h)) (w .free .is); number-same = w .free .number-same; shaped = shaped-kept (w .free .shaped) }; own = w .own })
 
   replies-kept : (g : ℕ) → Heard q′ g → Own q′ store′ g
   replies-kept g h = go (ℕ-discrete g f)

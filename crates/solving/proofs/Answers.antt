@@ -20,7 +20,7 @@ use Rattle.reply.proofs.Round.{is-the, sound-of}
 use Rattle.whole.specs.Whole.{Heard, placeOf, sizeOf, partOf, Opened}
 use Rattle.solving.specs.inner.Values.{truths, valuesIn, RowPut, Agree, kept, answerOf}
 use Rattle.whole.specs.declared.Question.{Question}
-use Rattle.whole.proofs.Pieces.{part-is}
+use Rattle.whole.proofs.Pieces.{part-is, own-reply}
 use Rattle.solving.proofs.Replies.{none-at}
 
 -- ---- values that agree give the same answers
@@ -90,11 +90,11 @@ rows-agree n r f v d v′ d′ a b p q x y = record {
 -- ---- the replies held
 module _ (q : Question) (used : ℕ) (store : Bytes) (o : Opened q used store) where
   pub part-sound : (f : ℕ) → Heard q f → Sound 12 (partOf q store f)
-  part-sound f h = let w = o .laid .replies f h in sound-of 12 (partOf q store f) (w .reply) (w .free .is)
+  part-sound f h = let w = own-reply (o .laid .replies f h) in sound-of 12 (partOf q store f) (w .reply) (w .free .is)
 
   entries-are : (f : ℕ) → Heard q f → entriesOf (partOf q store f) ≡ q .entries
   unfolding decoded
-  entries-are f h = let w = o .laid .replies f h in ap (λ (z : Reply). z .entries) (sym (is-the 12 (partOf q store f) (w .reply) (w .free .is))) ∙ w .free .shaped .entries-same
+  entries-are f h = let w = own-reply (o .laid .replies f h) in ap (λ (z : Reply). z .entries) (sym (is-the 12 (partOf q store f) (w .reply) (w .free .is))) ∙ w .free .shaped .entries-same
 
   pub part-end : (f : ℕ) → Heard q f → placeOf q f + sizeOf q f ≤ length store
   part-end f h = omega (arith, o .laid .tiled .inside f h, o .laid .fits)

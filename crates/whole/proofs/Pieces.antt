@@ -7,6 +7,7 @@ use mathlib.Core.List.{List, List·Memᴰ}
 use mathlib.Core.Logic.{_⊎_, ⊎-elim, _≢_}
 use native.Mathlib.Omega.{arith}
 use native.Mathlib.Nat.{min-le-left}
+use native.Mathlib.Decide.{decLt, ℕ-discrete}
 use lib.ListN.{length, getD, take, drop, length-take}
 use Rattle.meaning.specs.Says.{Says}
 use Rattle.meaning.specs.Bytes.{Bytes}
@@ -127,6 +128,14 @@ judged-not {q} {s} (passed u (passed n (refused h))) e t g = h (λ r i. subst (S
 judged-not (passed t (passed n (passed k granted))) e u g = e refl
 
 -- ---- one fragment's bytes
+pub heard-or-not : (q : Question) (f : ℕ) → Dec (Heard q f)
+heard-or-not q f = go (decLt f 32) (ℕ-discrete (getD (q .heard) f 0) 0)
+  where
+    go : Dec (f < 32) → Dec (getD (q .heard) f 0 ≡ 0) → Dec (Heard q f)
+    go (yes l) (yes z) = no (λ h. h .1 z)
+    go (yes l) (no n) = yes (l, n)
+    go (no l) z = no (λ h. l (h .0))
+
 -- the reply that they are
 pub record OwnReply (q : Question) (store : Bytes) (f : ℕ) : Type 0 where
   pub reply : Reply
