@@ -12,7 +12,7 @@ use lib.Seq.{take-all, take-length, drop-drop}
 use Rattle.meaning.specs.Bytes.{Bytes}
 use Rattle.meaning.specs.Algebra.{bool}
 use Rattle.meaning.specs.Reply.{Reply}
-use Rattle.meaning.specs.Solve.{Values, solved, solve, blank, Outcome, waiting, said, isHeard, allHeard, outcome}
+use Rattle.meaning.specs.Solve.{Values, solved, solve, blank, waiting, said, isHeard, allHeard, outcome}
 use Rattle.reply.specs.Read.{Is}
 use Rattle.reply.specs.inner.Decode.{decoded}
 use Rattle.reply.specs.inner.Fields.{HeadIs}

@@ -1,21 +1,21 @@
 -- A successful opening is whole; accepting and a refused opening keep wholeness.
-use Prim.Native.Nat.{ℕ, _+_, _-_, _≤_, _<_, min}
+use Prim.Native.Nat.{ℕ, _+_, _-_, _≤_, _<_}
 use native.Mathlib.Omega.{arith}
 use native.Mathlib.Decide.{ℕ-discrete, decLt}
 use mathlib.Core.Path.{_≡_, refl, sym, ap, _∙_, subst}
 use mathlib.Core.Logic.{_≢_}
 use mathlib.Core.List.{List, _++_}
 use lib.ListN.{length, getD, set, take, drop, replicate, length-append, length-drop, take-append-drop, getD-replicate}
-use lib.Seq.{length-take-le, take-append-le, drop-append-le, take-append-seam, drop-at, take-at, getD-set-same, getD-set-other}
+use lib.Seq.{length-take-le, take-append-le, drop-append-le, take-append-seam, drop-at, getD-set-same, getD-set-other}
 use Rattle.meaning.specs.Bytes.{Bytes}
 use Rattle.meaning.specs.Reply.{Reply}
 use Rattle.meaning.specs.Refused.{Unless}
 use Rattle.whole.specs.Tiles.{In, Tiled}
-use Rattle.whole.specs.Whole.{OpenRules, Rules, layoutOf, Shaped, Heard, placeOf, sizeOf, partOf, Own, Laid, Opened, Whole, Sizes}
+use Rattle.whole.specs.Whole.{OpenRules, layoutOf, Shaped, Heard, placeOf, sizeOf, partOf, Own, Opened, Whole, Sizes}
 use Rattle.desk.specs.Changed.{openedAs, noted, putAt}
 use Rattle.whole.proofs.Pieces.{own-reply, reply-own}
 use Rattle.reply.specs.Read.{Is}
-use Rattle.desk.specs.Calls.{Opens, Accepts, Why}
+use Rattle.desk.specs.Calls.{Why}
 use Rattle.desk.specs.Promise.{FreshWhole, AfterTheLast, OpeningWhole, RefusedOpeningKeeps, AcceptingKeeps}
 use Rattle.whole.specs.declared.Question.{Question}
 use Rattle.whole.specs.declared.Record.{Record}

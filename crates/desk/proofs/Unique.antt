@@ -1,6 +1,6 @@
 -- Any two results that a contract allows are equal; and what a call that refuses nothing has passed.
-use Prim.Native.Nat.{ℕ, _+_, _≤_, _<_}
-use mathlib.Core.Path.{_≡_, refl, sym, ap, _∙_, subst, fun-ext}
+use Prim.Native.Nat.{ℕ, _+_, _≤_}
+use mathlib.Core.Path.{_≡_, sym, ap, _∙_, subst, fun-ext}
 use mathlib.Core.Option.{Option, some}
 use mathlib.Core.Logic.{_≢_}
 use native.Mathlib.Omega.{arith}
@@ -12,7 +12,7 @@ use Rattle.reply.specs.Read.{Is}
 use Rattle.meaning.specs.Solve.{outcome}
 use Rattle.meaning.proofs.Refused.{One, one-granted, one-unless, through}
 use Rattle.whole.specs.Whole.{Whole, Heard, Shaped, partOf}
-use Rattle.desk.specs.Calls.{Opens, Accepts, Asks, Why, OpenRefusal, AskRefusal, Held, saidOf}
+use Rattle.desk.specs.Calls.{Why, OpenRefusal, AskRefusal, Held, saidOf}
 use Rattle.desk.specs.Promise.{OneOpening, OneAccepting, OneAsking}
 use Rattle.whole.specs.declared.Question.{Question}
 use Rattle.whole.specs.declared.Record.{Record}

@@ -3,7 +3,6 @@ use Prim.Native.Nat.{ℕ, _+_, _-_}
 use mathlib.Core.List.{_++_}
 use lib.ListN.{length, set, take, drop, replicate}
 use Rattle.meaning.specs.Bytes.{Bytes}
-use Rattle.whole.specs.declared.Question.{Question}
 use Rattle.whole.specs.declared.Record.{Record}
 
 -- a fresh record

@@ -1,8 +1,7 @@
 -- WHAT IS PROVED of the desk's calls: each promise is a type, and proofs/ has an element of it under its name (`one-opening` of `OneOpening`).
-use Prim.Native.Nat.{ℕ, _≤_, _<_}
+use Prim.Native.Nat.{ℕ, _≤_}
 use mathlib.Core.Path.{_≡_}
 use mathlib.Core.Logic.{_≢_}
-use lib.ListN.{length}
 use Rattle.meaning.specs.Bytes.{Bytes}
 use Rattle.whole.specs.Whole.{OpenRules, Whole, Sizes}
 use Rattle.desk.specs.Changed.{freshRecord}

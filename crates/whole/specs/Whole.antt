@@ -1,5 +1,5 @@
 -- When a reply is free of 13 to 15, and when record and store are whole (01, "The desk").
-use Prim.Native.Nat.{ℕ, _+_, _≤_, _<_}
+use Prim.Native.Nat.{ℕ, _≤_, _<_}
 use mathlib.Core.Path.{_≡_}
 use mathlib.Core.Logic.{_↔_, _≢_}
 use mathlib.Core.List.{List·Memᴰ}

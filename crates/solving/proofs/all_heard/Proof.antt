@@ -1,5 +1,5 @@
 -- `solving::all_heard` meets its contract.
-use Prim.Native.Nat.{ℕ, _-_, _≤_, _<_}
+use Prim.Native.Nat.{ℕ, _-_, _<_}
 use native.Mathlib.Omega.{arith}
 use Rattle.meaning.specs.Says.{aye, nay}
 use Rattle.reply.proofs.Tests.{says-yes, says-no}
