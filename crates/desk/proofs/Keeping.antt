@@ -11,7 +11,7 @@ use Rattle.meaning.specs.Bytes.{Bytes}
 use Rattle.meaning.specs.Reply.{Reply}
 use Rattle.meaning.specs.Refused.{Unless}
 use Rattle.whole.specs.Tiles.{In, Tiled}
-use Rattle.whole.specs.Whole.{OpenRules, layoutOf, Shaped, Heard, placeOf, sizeOf, partOf, Own, Opened, Whole, Sizes}
+use Rattle.whole.specs.Whole.{OpenRules, layoutOf, Shaped, Heard, startOf, sizeOf, partOf, Own, Opened, Whole, Sizes}
 use Rattle.desk.specs.Changed.{openedAs, noted, putAt}
 use Rattle.whole.proofs.Pieces.{own-reply, reply-own}
 use Rattle.reply.specs.Read.{Is}
@@ -104,13 +104,13 @@ module _ (d : Record) (store s : Bytes) (wide : Sizes (d .question)) (p : Passed
   pub heard-kept : {g : ℕ} → Heard q g → Heard q′ g
   heard-kept h = (h .0, λ z. h .1 (sym (set-other (q .heard) 1 (other h)) ∙ z))
 
-  place-new : placeOf q′ f ≡ d .used
+  place-new : startOf q′ f ≡ d .used
   place-new = getD-set-same (q .place) f (d .used) 0 (omega (arith, low, wide .place-all))
 
   size-new : sizeOf q′ f ≡ length s
   size-new = getD-set-same (q .size) f (length s) 0 (omega (arith, low, wide .size-all))
 
-  place-kept : {g : ℕ} → g ≢ f → placeOf q′ g ≡ placeOf q g
+  place-kept : {g : ℕ} → g ≢ f → startOf q′ g ≡ startOf q g
   place-kept n = set-other (q .place) (d .used) n
 
   size-kept : {g : ℕ} → g ≢ f → sizeOf q′ g ≡ sizeOf q g
@@ -123,7 +123,7 @@ module _ (d : Record) (store s : Bytes) (wide : Sizes (d .question)) (p : Passed
   part-new = rw (place-new, size-new) (put-here (d .used) s store (p .room))
 
   pub part-kept : {g : ℕ} → Heard q g → partOf q′ store′ g ≡ partOf q store g
-  part-kept {g} h = rw (place-kept (other h), size-kept (other h)) (put-before (d .used) s store (p .room) (placeOf q g) (sizeOf q g) (o .laid .tiled .inside g h))
+  part-kept {g} h = rw (place-kept (other h), size-kept (other h)) (put-before (d .used) s store (p .room) (startOf q g) (sizeOf q g) (o .laid .tiled .inside g h))
 
   -- layout, entries and number are the same
   shaped-kept : {r : Reply} → Shaped q r → Shaped q′ r
@@ -145,10 +145,10 @@ module _ (d : Record) (store s : Bytes) (wide : Sizes (d .question)) (p : Passed
       go (no n) = own-kept (heard-old n h)
 
   abbrev InOld : ℕ → ℕ → Type 0
-  InOld = In (Heard q) (placeOf q) (sizeOf q)
+  InOld = In (Heard q) (startOf q) (sizeOf q)
 
   abbrev InNew : ℕ → ℕ → Type 0
-  InNew = In (Heard q′) (placeOf q′) (sizeOf q′)
+  InNew = In (Heard q′) (startOf q′) (sizeOf q′)
 
   in-kept : {g x : ℕ} → InOld g x → InNew g x
   in-kept i = record { is = heard-kept (i .is); from = omega (arith, i .from, place-kept (other (i .is))); to = omega (arith, i .to, place-kept (other (i .is)), size-kept (other (i .is))) }
@@ -163,11 +163,11 @@ module _ (d : Record) (store s : Bytes) (wide : Sizes (d .question)) (p : Passed
   after : {x : ℕ} → InNew f x → d .used ≤ x
   after i = omega (arith, i .from, place-new)
 
-  tiled-kept : Tiled (Heard q′) (placeOf q′) (sizeOf q′) (d .used + length s)
+  tiled-kept : Tiled (Heard q′) (startOf q′) (sizeOf q′) (d .used + length s)
   tiled-kept = record { inside = λ g h. inside g h (ℕ-discrete g f); covered = λ x h. covered x h (decLt x (d .used)); apart = λ g h x i j. apart g h x i j (ℕ-discrete g f) (ℕ-discrete h f) }
     where
-      inside : (g : ℕ) → Heard q′ g → Dec (g ≡ f) → placeOf q′ g + sizeOf q′ g ≤ d .used + length s
-      inside g h (yes e) = subst (λ z. placeOf q′ z + sizeOf q′ z ≤ d .used + length s) (sym e) (omega (arith, place-new, size-new))
+      inside : (g : ℕ) → Heard q′ g → Dec (g ≡ f) → startOf q′ g + sizeOf q′ g ≤ d .used + length s
+      inside g h (yes e) = subst (λ z. startOf q′ z + sizeOf q′ z ≤ d .used + length s) (sym e) (omega (arith, place-new, size-new))
       inside g h (no n) = omega (arith, place-kept n, size-kept n, o .laid .tiled .inside g (heard-old n h))
 
       covered : (x : ℕ) → x < d .used + length s → Dec (x < d .used) → (g : ℕ) × InNew g x

@@ -1,7 +1,7 @@
 // The desk's limits: 10, 11, 15, 17, 20.
 use crate::line;
 use desk::accepted;
-use desk::desk_ask;
+use desk::asked_of;
 use desk::desk_fresh;
 use desk::opened;
 use whole::Record;
@@ -121,8 +121,8 @@ fn used() {
     let kept = a.desk;
     let mut forged = kept;
     forged.used = 12;
-    let on = desk_ask(kept, &store);
-    let past = desk_ask(forged, &store);
+    let on = asked_of(kept, &store);
+    let past = asked_of(forged, &store);
     line(
         b"a used length as it is; one byte more",
         on.refusal,

@@ -20,7 +20,7 @@ use Rattle.reply.specs.inner.Fields.{HeadIs, verdict}
 use Rattle.reply.specs.declared.Head.{Head}
 use Rattle.reply.proofs.Round.{Fields, fields-of, check-reply, check-none, is-the, sound-of}
 use Rattle.meaning.specs.Refused.{refused, passed, granted}
-use Rattle.whole.specs.Whole.{layoutOf, Rules, Shaped, Heard, placeOf, sizeOf, partOf, Own, Laid, Opened, Whole, closed, opened}
+use Rattle.whole.specs.Whole.{layoutOf, Rules, Shaped, Heard, startOf, sizeOf, partOf, Own, Laid, Opened, Whole, closed, opened}
 use Rattle.whole.specs.inner.Steps.{StandsFor, Judged, Starts, PartOk, FragmentOk}
 use Rattle.whole.specs.declared.Question.{Question}
 use Rattle.whole.specs.declared.Record.{Record}
@@ -148,14 +148,14 @@ own-reply o = let t = judged-free (o .judged) refl in record { reply = t .0; fre
 pub reply-own : {q : Question} {store : Bytes} {f : ℕ} → OwnReply q store f → Own q store f
 reply-own {q} {store} {f} o = record { judged = free-judged (o .free); own = λ r i. ap (λ (z : Reply). z .fragment) (one-of (partOf q store f) r (o .reply) i (o .free .is)) ∙ o .own }
 
-pub part-is : (q : Question) (store : Bytes) (f p n : ℕ) → p ≡ placeOf q f → n ≡ sizeOf q f → take (p + n - p) (drop p store) ≡ partOf q store f
+pub part-is : (q : Question) (store : Bytes) (f p n : ℕ) → p ≡ startOf q f → n ≡ sizeOf q f → take (p + n - p) (drop p store) ≡ partOf q store f
 part-is q store f p n ep en = let e : p + n - p ≡ n = omega arith in rw (e, ep, en) refl
 
 pub long-enough : {q : Question} {s : Bytes} {c : ℕ} → Judged q s c → c ≡ 0 → 8 ≤ length s
 long-enough {q} {s} j e = let t = judged-free j e in omega (arith, sound-of 12 s (t .0) (t .1 .is) .head)
 
 part-good : (q : Question) (used : ℕ) (store : Bytes) (f c : ℕ) (h : Head) {b : Bool} → Judged q (partOf q store f) c → c ≡ 0 → HeadIs (partOf q store f) h
-    → placeOf q f + sizeOf q f ≤ used → Says (h .fragment ≡ f) b → Says (PartOk q used store f) b
+    → startOf q f + sizeOf q f ≤ used → Says (h .fragment ≡ f) b → Says (PartOk q used store f) b
 part-good q used store f c h j e H i =
     let s = partOf q store f in
     let t = judged-free j e in
@@ -165,7 +165,7 @@ part-good q used store f c h j e H i =
     (λ k. x ∙ k .reply .own (t .0) (t .1 .is))
 
 pub part-says : (q : Question) (used : ℕ) (store : Bytes) (f c : ℕ) (h : Head) (s : Bytes) {b : Bool} → s ≡ partOf q store f → Judged q s c → c ≡ 0 → HeadIs s h
-    → placeOf q f + sizeOf q f ≤ used → Says (h .fragment ≡ f) b → Says (PartOk q used store f) b
+    → startOf q f + sizeOf q f ≤ used → Says (h .fragment ≡ f) b → Says (PartOk q used store f) b
 part-says q used store f c h s x j e H i y = part-good q used store f c h (subst (λ t. Judged q t c) x j) e (subst (λ t. HeadIs t h) x H) i y
 
 pub part-not : (q : Question) (used : ℕ) (store : Bytes) (f c : ℕ) (s : Bytes) → s ≡ partOf q store f → Judged q s c → c ≢ 0 → PartOk q used store f → ⊥
@@ -184,25 +184,25 @@ some-size : (q : Question) (store : Bytes) (f : ℕ) → Own q store f → 0 < s
 some-size q store f o =
     let w = own-reply o in
     let h = sound-of 12 (partOf q store f) (w .reply) (w .free .is) in
-    omega (arith, h .head, length-take (sizeOf q f) (drop (placeOf q f) store), min-le-left (sizeOf q f) (length (drop (placeOf q f) store)))
+    omega (arith, h .head, length-take (sizeOf q f) (drop (startOf q f) store), min-le-left (sizeOf q f) (length (drop (startOf q f) store)))
 
 module _ (q : Question) (used : ℕ) (store : Bytes) where
-  laid-tested : Laid q used store → Tested (Heard q) (placeOf q) (sizeOf q) used
-  laid-tested l = tiled-tested (Heard q) (placeOf q) (sizeOf q) used (λ f h. some-size q store f (l .replies f h)) (l .tiled)
+  laid-tested : Laid q used store → Tested (Heard q) (startOf q) (sizeOf q) used
+  laid-tested l = tiled-tested (Heard q) (startOf q) (sizeOf q) used (λ f h. some-size q store f (l .replies f h)) (l .tiled)
 
   pub laid-fragment : Laid q used store → (f : ℕ) → Heard q f → FragmentOk q used store f
   laid-fragment l f h =
       let t = laid-tested l in
       record { part = record { inside = t .inside f h; reply = l .replies f h }; apart = λ g k n. t .pairs f g h k n; follows = t .follows f h }
 
-  pub laid-begins : Laid q used store → used ≢ 0 → Starts (Heard q) (placeOf q) (sizeOf q) 0
+  pub laid-begins : Laid q used store → used ≢ 0 → Starts (Heard q) (startOf q) (sizeOf q) 0
   laid-begins l n = ⊎-elim (λ e. absurd (n e)) (λ s. s) (laid-tested l .begins)
 
-  pub laid-of : used ≤ length store → ((f : ℕ) → Heard q f → FragmentOk q used store f) → (used ≡ 0) ⊎ Starts (Heard q) (placeOf q) (sizeOf q) 0 → Laid q used store
+  pub laid-of : used ≤ length store → ((f : ℕ) → Heard q f → FragmentOk q used store f) → (used ≡ 0) ⊎ Starts (Heard q) (startOf q) (sizeOf q) 0 → Laid q used store
   laid-of r k b = record {
     fits = r;
     replies = λ f h. k f h .part .reply;
-    tiled = tested-tiled (Heard q) (placeOf q) (sizeOf q) used (λ f h. some-size q store f (k f h .part .reply))
+    tiled = tested-tiled (Heard q) (startOf q) (sizeOf q) used (λ f h. some-size q store f (k f h .part .reply))
         (record { inside = λ f h. k f h .part .inside; pairs = λ f g h i n. k f h .apart g i n; follows = λ f h. k f h .follows; begins = b });
   }
 

@@ -45,15 +45,15 @@ Judging q s rest =
 abbrev pub Heard : Question → ℕ → Type 0
 Heard q f = (f < 32) × (getD (q .heard) f 0 ≢ 0)
 
-abbrev pub placeOf : Question → ℕ → ℕ
-placeOf q f = getD (q .place) f 0
+abbrev pub startOf : Question → ℕ → ℕ
+startOf q f = getD (q .place) f 0
 
 abbrev pub sizeOf : Question → ℕ → ℕ
 sizeOf q f = getD (q .size) f 0
 
 -- the bytes recorded for f
 abbrev pub partOf : Question → Bytes → ℕ → Bytes
-partOf q store f = take (sizeOf q f) (drop (placeOf q f) store)
+partOf q store f = take (sizeOf q f) (drop (startOf q f) store)
 
 -- they are free of 13 to 15, and f's
 pub record Own (q : Question) (store : Bytes) (f : ℕ) : Type 0 where
@@ -64,7 +64,7 @@ pub record Own (q : Question) (store : Bytes) (f : ℕ) : Type 0 where
 pub record Laid (q : Question) (used : ℕ) (store : Bytes) : Type 0 where
   pub fits : used ≤ length store
   pub replies : (f : ℕ) → Heard q f → Own q store f
-  pub tiled : Tiled (Heard q) (placeOf q) (sizeOf q) used
+  pub tiled : Tiled (Heard q) (startOf q) (sizeOf q) used
 
 pub record Opened (q : Question) (used : ℕ) (store : Bytes) : Type 0 where
   pub rules : Rules q
