@@ -76,7 +76,7 @@ static unsigned give(const struct reply *reply)
 
 static struct desk_asked ask(void)
 {
-    return desk_ask(desk, store, sizeof store);
+    return desk_ask(&desk, store, sizeof store);
 }
 
 static void hand_in(const char *what, const struct reply *reply, size_t size)

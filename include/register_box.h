@@ -155,7 +155,7 @@ uint8_t reply_check(const uint8_t *bytes, size_t bytes_length);
 
 /* The question that is open. A host has no need to look inside: desk_fresh, desk_open and desk_accept keep it. */
 struct desk_question {
-    uint32_t number; /* 0: none is open */
+    uint64_t number; /* 0: none is open */
     size_t entries;
     size_t parts;                                /* fragments in the layout */
     uint8_t layout[REGISTER_BOX_MOST_FRAGMENTS]; /* each one's parent; 255 for fragment 0 */
@@ -164,9 +164,10 @@ struct desk_question {
     size_t size[REGISTER_BOX_MOST_FRAGMENTS];    /* how many bytes it has */
 };
 
-/* The desk's record. It may be kept anywhere between calls, beside its store; whoever changes either gets 20 where they no longer fit. */
+/* The desk's record. It may be kept anywhere between calls, beside its store; whoever changes either gets 20 where they no longer fit. It has
+   no byte that no field covers, so that records may be compared with memcmp. */
 struct desk_record {
-    uint32_t last; /* the last number opened */
+    uint64_t last; /* the last number opened */
     size_t used;   /* bytes of the store in use */
     struct desk_question question;
 };
@@ -180,7 +181,7 @@ struct desk_record desk_fresh(void);
    calls, or by memset and then the last number.
 
    Refuses, in this order: 10 the layout breaks a rule or has not 1 to 32 fragments, or entries not 1 to 32; 11 number not above the last
-   opened. Refused, the record is unchanged. After number 4294967295 every opening that escapes 10 gets 11. */
+   opened. Refused, the record is unchanged. After number 4294967295, or a last number above it, every opening that escapes 10 gets 11. */
 uint8_t desk_open(struct desk_record *desk, const uint8_t *layout, size_t layout_length, size_t entries, uint32_t number);
 
 /* Takes a reply into the store. The store must be the same from opening on, with room for one reply of each fragment.
@@ -200,7 +201,7 @@ struct desk_asked {
 
 /* Asks for the answer: waiting until every fragment is heard, then no or yes. Nothing is written.
    Refuses, in this order: 20 record and store not whole; 12 no question open. */
-struct desk_asked desk_ask(struct desk_record desk, const uint8_t *store, size_t store_length);
+struct desk_asked desk_ask(const struct desk_record *desk, const uint8_t *store, size_t store_length);
 
 /* A compiler that lays these structs out otherwise than the library cannot use it. */
 #if defined(__STDC_VERSION__) && __STDC_VERSION__ >= 201112L

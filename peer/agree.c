@@ -251,14 +251,14 @@ static int desk_says(size_t entries)
         return DESK_WAITING;
     while (heard < box_count) {
         unsigned b = below(box_count), due = is_heard[b] ? REGISTER_BOX_ALREADY_HEARD : REGISTER_BOX_TAKEN;
-        if (desk_ask(desk, store, sizeof store).said != DESK_WAITING)
+        if (desk_ask(&desk, store, sizeof store).said != DESK_WAITING)
             return DESK_WAITING;
         if (desk_accept(&desk, store, sizeof store, replies[b], sizes[b]) != due)
             return DESK_WAITING;
         heard += !is_heard[b];
         is_heard[b] = 1;
     }
-    return desk_ask(desk, store, sizeof store).said;
+    return desk_ask(&desk, store, sizeof store).said;
 }
 
 static int peer_says(void)

@@ -121,7 +121,7 @@ static int desk_ours(size_t q)
     (void)q;
     desk_open(&desk, layout, 1, list.count, 1);
     desk_accept(&desk, store, sizeof store, reply, reply_size);
-    return desk_ask(desk, store, sizeof store).said;
+    return desk_ask(&desk, store, sizeof store).said;
 }
 
 /* ---- the peer ---- */

@@ -45,7 +45,7 @@ static void expect(const char *what, size_t answer, size_t due)
 
 static void ask(const char *what, unsigned refusal, unsigned said)
 {
-    struct desk_asked a = desk_ask(desk, store, ROOM);
+    struct desk_asked a = desk_ask(&desk, store, ROOM);
     expect(what, a.refusal, refusal);
     expect(what, a.said, said);
 }
@@ -58,7 +58,7 @@ static void keep(void)
 
 static int record_kept(void)
 {
-    return before.last == desk.last && before.used == desk.used && memcmp(&before.question, &desk.question, sizeof desk.question) == 0;
+    return memcmp(&before, &desk, sizeof desk) == 0;
 }
 
 /* Bytes that are refused leave record and store as they were. */
@@ -192,6 +192,10 @@ static void numbers(void)
     open("the highest again", one, 1, 1, 4294967295u, 11);
     open("1 after the highest", one, 1, 1, 1, 11);
     open("10 after the highest", bad, 1, 1, 4294967295u, 10);
+    desk.last = 4294967296u;
+    open("after a last number that no opening gives", one, 1, 1, 4294967295u, 11);
+    desk.last = UINT64_MAX;
+    open("after the highest last number", one, 1, 1, 4294967295u, 11);
 }
 
 static void layouts(void)
@@ -252,6 +256,7 @@ static void forged_numbers(void)
     desk.used = 208; forged("used a byte less", 20);
     desk.used = 210; forged("used a byte more than the store", 20);
     desk.question.number = 8; forged("another number", 20);
+    desk.question.number = 7 + 4294967296u; forged("a number that no reply can bear", 20);
     desk.question.number = 0; forged("no number, and heard", 20);
     desk.question.entries = 9; forged("nine entries", 20);
     desk.question.entries = 0; forged("no entry", 20);
@@ -298,6 +303,8 @@ static void forged_fresh(void)
 {
     full = desk = desk_fresh();
     desk.last = 1; forged("none open after 1", 20);
+    desk_open(&desk, layout, 3, 10, 7);
+    desk.question.number = 0; forged("none open, with the last number, layout and count of one", 20);
     desk.used = 1; forged("none open, a byte used", 20);
     desk.question.heard[31] = 1; forged("none open, one heard", 20);
     desk.question.parts = 99;

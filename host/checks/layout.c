@@ -149,12 +149,49 @@ static void records(void)
     }
 }
 
+/* Leaves this byte where the next calls have their locals. */
+__attribute__((noinline)) static void poison(int byte)
+{
+    volatile uint8_t below[1 << 14];
+    for (size_t i = 0; i < sizeof below; i++)
+        below[i] = (uint8_t)byte;
+}
+
+/* Makes a record in memory of that content and over a stack of that content: fresh, opened, and each reply taken. */
+static void make_over(int byte, struct desk_record *desk, struct desk_record *fresh)
+{
+    memset(desk, byte, sizeof *desk);
+    memset(fresh, byte, sizeof *fresh);
+    poison(byte);
+    fresh_into(fresh);
+    desk->last = NUMBER - 1;
+    poison(byte);
+    expect("desk_open", desk_open(desk, layout, PARTS, 1, NUMBER), 0);
+    for (uint32_t f = PARTS; f-- > 0;) {
+        size_t size = reply_of(f, reply, sizeof reply);
+        poison(byte);
+        expect("desk_accept", desk_accept(desk, store, sizeof store, reply, size), 0);
+    }
+}
+
+/* No byte of a record comes from elsewhere: what was in its memory or on the stack before is not seen. */
+static void same_bytes(void)
+{
+    static struct desk_record desk[2], fresh[2];
+    make_over(0xA5, &desk[0], &fresh[0]);
+    make_over(0x5A, &desk[1], &fresh[1]);
+    expect("fresh, over other memory and stack", (size_t)memcmp(&fresh[0], &fresh[1], sizeof *fresh), 0);
+    expect("opened and accepted, over other memory and stack", (size_t)memcmp(&desk[0], &desk[1], sizeof *desk), 0);
+}
+
 static struct desk_record full;
 
-/* A record handed over by value, with one field changed. */
+/* A record with one field changed; asking leaves it as it is. */
 static void changed(const char *what, struct desk_record desk, unsigned refusal)
 {
-    struct desk_asked answer = desk_ask(desk, store, sizeof store);
+    struct desk_record before = desk;
+    struct desk_asked answer = desk_ask(&desk, store, sizeof store);
+    expect("desk_ask, the record", (size_t)memcmp(&before, &desk, sizeof desk), 0);
     expect(what, answer.refusal, refusal);
     expect(what, answer.said, refusal == 0 ? DESK_YES : 0);
 }
@@ -187,7 +224,7 @@ static void nulls(void)
     expect("no bytes", reply_check(NULL, 0), REGISTER_BOX_NOT_A_REPLY);
     expect("no layout", desk_open(&desk, NULL, 0, 1, 1), REGISTER_BOX_BAD_LAYOUT);
     expect("no store, no reply", desk_accept(&desk, NULL, 0, NULL, 0), REGISTER_BOX_NONE_OPEN);
-    expect("no store", desk_ask(desk, NULL, 0).refusal, REGISTER_BOX_NONE_OPEN);
+    expect("no store", desk_ask(&desk, NULL, 0).refusal, REGISTER_BOX_NONE_OPEN);
 }
 
 int main(void)
@@ -195,6 +232,7 @@ int main(void)
     questions();
     lists();
     records();
+    same_bytes();
     changes();
     nulls();
     printf("structs: %d answers, %d wrong\n", asked, wrong);

@@ -5,30 +5,28 @@ use native.Mathlib.Decide.{ℕ-discrete}
 use mathlib.Core.Path.{_≡_, refl, sym, ap, _∙_, subst}
 use mathlib.Core.Logic.{_≢_}
 use mathlib.Core.Bool.{Bool, true, false, _&&_, cond, false≢true}
-use mathlib.Core.Option.{none, some}
+use mathlib.Core.Option.{Option, none, some}
 use mathlib.Core.List.{List, _++_, append-nil}
-use lib.Dec.{eqb}
-use lib.ListN.{length, getD, take, drop, replicate, length-drop, drop-of-length-le}
+use lib.ListN.{length, take, drop, replicate, length-drop, drop-of-length-le}
 use lib.Seq.{take-all, take-length, drop-drop}
 use Rattle.meaning.specs.Bytes.{Bytes}
 use Rattle.meaning.specs.Algebra.{bool}
 use Rattle.meaning.specs.Reply.{Reply}
-use Rattle.meaning.specs.Solve.{Values, solved, solve, noValues, Outcome, waiting, said, isHeard, allHeard, outcome}
-use Rattle.meaning.proofs.Numbers.{eqb-true, eqb-false}
+use Rattle.meaning.specs.Solve.{Values, solved, solve, noValues, waiting, said, isHeard, allHeard, outcome}
 use Rattle.reply.specs.Read.{Is}
-use Rattle.reply.specs.inner.Decode.{read}
+use Rattle.reply.specs.inner.Decode.{decoded}
 use Rattle.reply.specs.inner.Fields.{HeadIs}
 use Rattle.reply.specs.declared.Head.{Head}
-use Rattle.reply.proofs.Round.{is-the, some-is, checked-of}
+use Rattle.reply.proofs.Round.{is-the, checked-of}
 use Rattle.meaning.specs.Refused.{refused, passed, granted}
-use Rattle.whole.specs.Whole.{Keeps, Free, Judging, Heard, partOf, Opened, Whole}
+use Rattle.whole.specs.Whole.{OpenRules, Judging, Heard, partOf, Opened, Whole}
 use Rattle.whole.specs.inner.Steps.{Judged}
 use Rattle.solving.specs.inner.Values.{AllHeard, kept, answerOf}
 use Rattle.desk.specs.Changed.{openedAs, noted, putAt}
-use Rattle.desk.specs.Calls.{Opens, Why, Accepts, held, saidOf, Asks}
+use Rattle.desk.specs.Calls.{Opens, Why, Accepts, Held, saidOf, Asks}
 use Rattle.whole.specs.declared.Question.{Question}
 use Rattle.whole.specs.declared.Record.{Record}
-use Rattle.whole.proofs.Pieces.{fragment-is, judged-free, was-open}
+use Rattle.whole.proofs.Pieces.{Free, fragment-is, heard-or-not, judged-free, own-reply, was-open}
 use Rattle.solving.proofs.Truths.{bit, solved-same}
 
 -- ---- opening
@@ -42,13 +40,13 @@ pub opened-as : (layout : Bytes) (n : ℕ) (l : Bytes) (entries number : ℕ) �
 opened-as layout n l entries number e f = rw (e, f, take-length layout, drop-zeros (length layout) 32) refl
 
 module _ (d : Record) (layout : Bytes) (entries number : ℕ) where
-  pub opens-10 : (Keeps layout entries → ⊥) → Opens d layout entries number 10 d
+  pub opens-10 : (OpenRules layout entries → ⊥) → Opens d layout entries number 10 d
   opens-10 h = record { why = refused h; refused = λ n. refl; opened = λ e. absurd (omega arith) }
 
-  pub opens-11 : Keeps layout entries → number ≤ d .last → Opens d layout entries number 11 d
+  pub opens-11 : OpenRules layout entries → number ≤ d .last → Opens d layout entries number 11 d
   opens-11 k h = record { why = passed k (refused (λ l. omega arith)); refused = λ n. refl; opened = λ e. absurd (omega arith) }
 
-  pub opens : (after : Record) → Keeps layout entries → d .last < number → after ≡ openedAs layout entries number → Opens d layout entries number 0 after
+  pub opens : (after : Record) → OpenRules layout entries → d .last < number → after ≡ openedAs layout entries number → Opens d layout entries number 0 after
   opens after k h e = record { why = passed k (passed h granted); refused = λ n. absurd (n refl); opened = λ z. e }
 
 -- ---- accepting
@@ -114,79 +112,104 @@ accepts d store s h n a after w H en ea es = record {
 }
 
 -- ---- asking
+-- the replies held, by computing
+abbrev pub heldIf : {X : Type 0} → Dec X → Reply → Option Reply
+heldIf (yes h) r = some r
+heldIf (no n) r = none
+
+abbrev pub heldOf : Question → Bytes → ℕ → Option Reply
+heldOf q store f = heldIf (heard-or-not q f) (decoded 12 (partOf q store f))
+
 module _ (q : Question) (store : Bytes) where
-  held-none : (f : ℕ) → getD (q .heard) f 0 ≡ 0 → held q store f ≡ none
-  held-none f e = ap (λ b. cond b none (read 12 (partOf q store f))) (ap (λ k. eqb k 0) e ∙ eqb-true 0)
+  held-none : (f : ℕ) → (Heard q f → ⊥) → heldOf q store f ≡ none
+  held-none f n = go (heard-or-not q f)
+    where
+      go : (d : Dec (Heard q f)) → heldIf d (decoded 12 (partOf q store f)) ≡ none
+      go (yes h) = absurd (n h)
+      go (no m) = refl
 
-  held-some : (f : ℕ) → getD (q .heard) f 0 ≢ 0 → held q store f ≡ read 12 (partOf q store f)
-  held-some f n = ap (λ b. cond b none (read 12 (partOf q store f))) (eqb-false (getD (q .heard) f 0) 0 n)
+  held-some : (f : ℕ) → Heard q f → heldOf q store f ≡ kept q store f
+  held-some f h = go (heard-or-not q f)
+    where
+      go : (d : Dec (Heard q f)) → heldIf d (decoded 12 (partOf q store f)) ≡ some (decoded 12 (partOf q store f))
+      go (yes h) = refl
+      go (no n) = absurd (n h)
 
-  heard-of : (f : ℕ) → isHeard (held q store f) ≡ true → getD (q .heard) f 0 ≢ 0
-  heard-of f h e = false≢true (sym (ap isHeard (held-none f e)) ∙ h)
+  heard-of : (f : ℕ) → isHeard (heldOf q store f) ≡ true → Heard q f
+  heard-of f e = go (heard-or-not q f)
+    where
+      go : Dec (Heard q f) → Heard q f
+      go (yes h) = h
+      go (no n) = absurd (false≢true (sym (ap isHeard (held-none f n)) ∙ e))
 
   and-both : (a b : Bool) → a && b ≡ true → (a ≡ true) × (b ≡ true)
   and-both true b e = (refl, e)
   and-both false b e = absurd (false≢true e)
 
-  each-heard : (k : ℕ) → allHeard (held q store) k ≡ true → (f : ℕ) → f < k → isHeard (held q store f) ≡ true
+  each-heard : (k : ℕ) → allHeard (heldOf q store) k ≡ true → (f : ℕ) → f < k → isHeard (heldOf q store f) ≡ true
   unfolding allHeard
   each-heard zero h f l = absurd (omega arith)
-  each-heard (suc k) h f l = go (ℕ-discrete f k) (and-both (isHeard (held q store k)) (allHeard (held q store) k) h) (each-heard k)
+  each-heard (suc k) h f l = go (ℕ-discrete f k) (and-both (isHeard (heldOf q store k)) (allHeard (heldOf q store) k) h) (each-heard k)
     where
-      go : Dec (f ≡ k) → (isHeard (held q store k) ≡ true) × (allHeard (held q store) k ≡ true) → (allHeard (held q store) k ≡ true → (f : ℕ) → f < k → isHeard (held q store f) ≡ true) → isHeard (held q store f) ≡ true
+      go : Dec (f ≡ k) → (isHeard (heldOf q store k) ≡ true) × (allHeard (heldOf q store) k ≡ true) → (allHeard (heldOf q store) k ≡ true → (f : ℕ) → f < k → isHeard (heldOf q store f) ≡ true) → isHeard (heldOf q store f) ≡ true
       go (yes e) p r = rw e (p .0)
       go (no e) p r = r (p .1) f (omega arith)
 
-  all-heard : (k : ℕ) → ((f : ℕ) → f < k → isHeard (held q store f) ≡ true) → allHeard (held q store) k ≡ true
+  all-heard : (k : ℕ) → ((f : ℕ) → f < k → isHeard (heldOf q store f) ≡ true) → allHeard (heldOf q store) k ≡ true
   unfolding allHeard
   all-heard zero h = refl
   all-heard (suc k) h = rw (h k (omega arith), all-heard k (λ f l. h f (omega arith))) refl
 
-  pub says-waiting : q .parts ≤ 32 → (AllHeard q → ⊥) → 0 ≡ saidOf (outcome (q .entries) (q .parts) (held q store))
-  unfolding outcome
-  says-waiting few n = go (allHeard (held q store) (q .parts)) refl
-    where
-      a : Outcome
-      a = said (solve bool (q .entries) (held q store) (q .parts) (noValues bool (q .entries)) .v 0 (q .entries - 1))
+  -- V of fragment 0's last entry
+  abbrev top : Bool
+  top = solve bool (q .entries) (heldOf q store) (q .parts) (noValues bool (q .entries)) .v 0 (q .entries - 1)
 
-      go : (b : Bool) → allHeard (held q store) (q .parts) ≡ b → 0 ≡ saidOf (cond b a waiting)
-      go true e = absurd (n (λ f l. (omega arith, heard-of f (each-heard (q .parts) e f l))))
+  -- what the desk says
+  abbrev pub Said : ℕ → Type 0
+  Said answer = answer ≡ saidOf (outcome (q .entries) (q .parts) (heldOf q store))
+
+  pub says-waiting : (AllHeard q → ⊥) → Said 0
+  unfolding outcome
+  says-waiting n = go (allHeard (heldOf q store) (q .parts)) refl
+    where
+      go : (b : Bool) → allHeard (heldOf q store) (q .parts) ≡ b → 0 ≡ saidOf (cond b (said top) waiting)
+      go true e = absurd (n (λ f l. heard-of f (each-heard (q .parts) e f l)))
       go false e = refl
 
-  module _ (used : ℕ) (o : Opened q used store) (h : AllHeard q) where
-    held-is : (f : ℕ) → f < q .parts → held q store f ≡ kept q store f
-    held-is f l =
-        let w = o .laid .replies f (h f l) in
-        held-some f (h f l .1) ∙ some-is 12 (partOf q store f) (w .reply) (w .free .is) ∙ ap some (is-the 12 (partOf q store f) (w .reply) (w .free .is))
+  module _ (used : ℕ) (o : Opened q used store) where
+    pub held-are : Held q store (heldOf q store)
+    held-are = record { unheard = held-none; heard = λ f h. (decoded 12 (partOf q store f), held-some f h, is f h) }
+      where
+        is : (f : ℕ) → Heard q f → Is 12 (partOf q store f) (decoded 12 (partOf q store f))
+        is f h = let w = own-reply (o .laid .replies f h) in subst (Is 12 (partOf q store f)) (is-the 12 (partOf q store f) (w .reply) (w .free .is)) (w .free .is)
 
-    solve-held : (k : ℕ) → k ≤ q .parts → (S : Values Bool) → solve bool (q .entries) (held q store) k S ≡ solve bool (q .entries) (kept q store) k S
+  module _ (h : AllHeard q) where
+    solve-held : (k : ℕ) → k ≤ q .parts → (S : Values Bool) → solve bool (q .entries) (heldOf q store) k S ≡ solve bool (q .entries) (kept q store) k S
     unfolding solve
     solve-held zero l S = refl
     solve-held (suc k) l S =
-        solve-held k (omega arith) (solved bool (q .entries) (held q store k) k S)
-        ∙ ap (λ o. solve bool (q .entries) (kept q store) k (solved bool (q .entries) o k S)) (held-is k l)
+        solve-held k (omega arith) (solved bool (q .entries) (heldOf q store k) k S)
+        ∙ ap (λ o. solve bool (q .entries) (kept q store) k (solved bool (q .entries) o k S)) (held-some k (h k l))
 
-    answer-bit : answerOf q store ≡ bit (solve bool (q .entries) (held q store) (q .parts) (noValues bool (q .entries)) .v 0 (q .entries - 1))
+    answer-bit : answerOf q store ≡ bit top
     unfolding answerOf
     answer-bit =
         solved-same (q .entries) (kept q store) (q .parts) .v-same 0 (q .entries - 1)
         ∙ ap (λ (S : Values Bool). bit (S .v 0 (q .entries - 1))) (sym (solve-held (q .parts) (omega arith) (noValues bool (q .entries))))
 
-    pub outcome-is : outcome (q .entries) (q .parts) (held q store) ≡ said (solve bool (q .entries) (held q store) (q .parts) (noValues bool (q .entries)) .v 0 (q .entries - 1))
+    outcome-is : outcome (q .entries) (q .parts) (heldOf q store) ≡ said top
     unfolding outcome
-    outcome-is =
-        ap (λ b. cond b (said (solve bool (q .entries) (held q store) (q .parts) (noValues bool (q .entries)) .v 0 (q .entries - 1))) waiting)
-        (all-heard (q .parts) (λ f l. ap isHeard (held-is f l)))
+    outcome-is = ap (λ b. cond b (said top) waiting) (all-heard (q .parts) (λ f l. ap isHeard (held-some f (h f l))))
 
-    pub answers-no : (x : ℕ) → x ≡ answerOf q store → x ≡ 0 → 1 ≡ saidOf (outcome (q .entries) (q .parts) (held q store))
-    answers-no x e z = go (solve bool (q .entries) (held q store) (q .parts) (noValues bool (q .entries)) .v 0 (q .entries - 1)) (sym z ∙ e ∙ answer-bit) ∙ ap saidOf (sym outcome-is)
+    pub answers-no : (x : ℕ) → x ≡ answerOf q store → x ≡ 0 → Said 1
+    answers-no x e z = go top (sym z ∙ e ∙ answer-bit) ∙ ap saidOf (sym outcome-is)
       where
         go : (b : Bool) → 0 ≡ bit b → 1 ≡ saidOf (said b)
         go true e = absurd (omega arith)
         go false e = refl
 
-    pub answers-yes : (x : ℕ) → x ≡ answerOf q store → x ≢ 0 → 2 ≡ saidOf (outcome (q .entries) (q .parts) (held q store))
-    answers-yes x e z = go (solve bool (q .entries) (held q store) (q .parts) (noValues bool (q .entries)) .v 0 (q .entries - 1)) (λ k. z (e ∙ answer-bit ∙ k)) ∙ ap saidOf (sym outcome-is)
+    pub answers-yes : (x : ℕ) → x ≡ answerOf q store → x ≢ 0 → Said 2
+    answers-yes x e z = go top (λ k. z (e ∙ answer-bit ∙ k)) ∙ ap saidOf (sym outcome-is)
       where
         go : (b : Bool) → bit b ≢ 0 → 2 ≡ saidOf (said b)
         go true e = refl
@@ -199,5 +222,9 @@ module _ (d : Record) (store : Bytes) where
   pub asks-12 : Whole d store → d .question .number ≡ 0 → Asks d store 12 0
   asks-12 w e = record { why = passed w (refused (λ n. n e)); refused = λ n. refl; answered = λ z. absurd (omega arith) }
 
-  pub asks : (answer : ℕ) → Whole d store → d .question .number ≢ 0 → answer ≡ saidOf (outcome (d .question .entries) (d .question .parts) (held (d .question) store)) → Asks d store 0 answer
-  asks answer w n e = record { why = passed w (passed n granted); refused = λ z. absurd (z refl); answered = λ z. e }
+  pub asks : (answer : ℕ) → Whole d store → d .question .number ≢ 0 → Said (d .question) store answer → Asks d store 0 answer
+  asks answer w n e = record {
+    why = passed w (passed n granted);
+    refused = λ z. absurd (z refl);
+    answered = λ z. (heldOf (d .question) store, held-are (d .question) store (d .used) (was-open d store w n), e);
+  }

@@ -1,21 +1,21 @@
 -- A successful opening is whole; accepting and a refused opening keep wholeness.
-use Prim.Native.Nat.{ℕ, _+_, _-_, _≤_, _<_, min}
+use Prim.Native.Nat.{ℕ, _+_, _-_, _≤_, _<_}
 use native.Mathlib.Omega.{arith}
 use native.Mathlib.Decide.{ℕ-discrete, decLt}
 use mathlib.Core.Path.{_≡_, refl, sym, ap, _∙_, subst}
 use mathlib.Core.Logic.{_≢_}
 use mathlib.Core.List.{List, _++_}
 use lib.ListN.{length, getD, set, take, drop, replicate, length-append, length-drop, take-append-drop, getD-replicate}
-use lib.Seq.{length-take-le, take-append-le, drop-append-le, take-append-seam, drop-at, take-at, getD-set-same, getD-set-other}
+use lib.Seq.{length-take-le, take-append-le, drop-append-le, take-append-seam, drop-at, getD-set-same, getD-set-other}
 use Rattle.meaning.specs.Bytes.{Bytes}
 use Rattle.meaning.specs.Reply.{Reply}
 use Rattle.meaning.specs.Refused.{Unless}
 use Rattle.whole.specs.Tiles.{In, Tiled}
-use Rattle.whole.specs.Whole.{Keeps, Rules, layoutOf, Shaped, Free, Heard, placeOf, sizeOf, partOf, Own, Laid, Opened, Whole}
+use Rattle.whole.specs.Whole.{OpenRules, layoutOf, Shaped, Heard, startOf, sizeOf, partOf, Own, Opened, Whole, Sizes}
 use Rattle.desk.specs.Changed.{openedAs, noted, putAt}
-use Rattle.whole.specs.inner.Steps.{Sizes}
+use Rattle.whole.proofs.Pieces.{own-reply, reply-own}
 use Rattle.reply.specs.Read.{Is}
-use Rattle.desk.specs.Calls.{Opens, Accepts, Why}
+use Rattle.desk.specs.Calls.{Why}
 use Rattle.desk.specs.Promise.{FreshWhole, AfterTheLast, OpeningWhole, RefusedOpeningKeeps, AcceptingKeeps}
 use Rattle.whole.specs.declared.Question.{Question}
 use Rattle.whole.specs.declared.Record.{Record}
@@ -52,11 +52,11 @@ silent f h = absurd (h .1 (getD-replicate 32 f 0 0 (h .0)))
 
 pub opening-whole : OpeningWhole
 opening-whole d layout entries number a o store = subst (λ z. Whole z store) (sym (o .opened refl)) (Whole.opened (λ z. omega (arith, above, z)) (record {
-  rules = record { few-parts = k .layout-keeps .most; keeps = subst (λ z. Keeps z entries) (sym whole) k };
+  rules = record { few-parts = k .layout-keeps .most; keeps = subst (λ z. OpenRules z entries) (sym whole) k };
   laid = record { fits = omega arith; replies = λ f h. silent f h; tiled = record { inside = λ f h. silent f h; covered = λ x h. absurd (omega arith); apart = λ f g x i j. silent f (i .is) } };
 }))
   where
-    k : Keeps layout entries
+    k : OpenRules layout entries
     k = through (λ z. omega (arith, z)) (o .why) .0
 
     above : d .last < number
@@ -104,13 +104,13 @@ module _ (d : Record) (store s : Bytes) (wide : Sizes (d .question)) (p : Passed
   pub heard-kept : {g : ℕ} → Heard q g → Heard q′ g
   heard-kept h = (h .0, λ z. h .1 (sym (set-other (q .heard) 1 (other h)) ∙ z))
 
-  place-new : placeOf q′ f ≡ d .used
+  place-new : startOf q′ f ≡ d .used
   place-new = getD-set-same (q .place) f (d .used) 0 (omega (arith, low, wide .place-all))
 
   size-new : sizeOf q′ f ≡ length s
   size-new = getD-set-same (q .size) f (length s) 0 (omega (arith, low, wide .size-all))
 
-  place-kept : {g : ℕ} → g ≢ f → placeOf q′ g ≡ placeOf q g
+  place-kept : {g : ℕ} → g ≢ f → startOf q′ g ≡ startOf q g
   place-kept n = set-other (q .place) (d .used) n
 
   size-kept : {g : ℕ} → g ≢ f → sizeOf q′ g ≡ sizeOf q g
@@ -123,19 +123,19 @@ module _ (d : Record) (store s : Bytes) (wide : Sizes (d .question)) (p : Passed
   part-new = rw (place-new, size-new) (put-here (d .used) s store (p .room))
 
   pub part-kept : {g : ℕ} → Heard q g → partOf q′ store′ g ≡ partOf q store g
-  part-kept {g} h = rw (place-kept (other h), size-kept (other h)) (put-before (d .used) s store (p .room) (placeOf q g) (sizeOf q g) (o .laid .tiled .inside g h))
+  part-kept {g} h = rw (place-kept (other h), size-kept (other h)) (put-before (d .used) s store (p .room) (startOf q g) (sizeOf q g) (o .laid .tiled .inside g h))
 
   -- layout, entries and number are the same
   shaped-kept : {r : Reply} → Shaped q r → Shaped q′ r
   shaped-kept x = record { fragment-in = x .fragment-in; entries-same = x .entries-same; children = x .children }
 
   own-new : Own q′ store′ f
-  own-new = record { reply = p .reply; free = record { is = subst (λ z. Is 12 z (p .reply)) (sym part-new) (p .is); number-same = p .number-same; shaped = shaped-kept (p .shaped) }; own = refl }
+  own-new = reply-own (record { reply = p .reply; free = record { is = subst (λ z. Is 12 z (p .reply)) (sym part-new) (p .is); number-same = p .number-same; shaped = shaped-kept (p .shaped) }; own = refl })
 
   own-kept : {g : ℕ} → Heard q g → Own q′ store′ g
   own-kept {g} h =
-      let w = o .laid .replies g h in
-      record { reply = w .reply; free = record { is = subst (λ z. Is 12 z (w .reply)) (sym (part-kept h)) (w .free .is); number-same = w .free .number-same; shaped = shaped-kept (w .free .shaped) }; own = w .own }
+      let w = own-reply (o .laid .replies g h) in
+      reply-own (record { reply = w .reply; free = record { is = subst (λ z. Is 12 z (w .reply)) (sym (part-kept h)) (w .free .is); number-same = w .free .number-same; shaped = shaped-kept (w .free .shaped) }; own = w .own })
 
   replies-kept : (g : ℕ) → Heard q′ g → Own q′ store′ g
   replies-kept g h = go (ℕ-discrete g f)
@@ -145,10 +145,10 @@ module _ (d : Record) (store s : Bytes) (wide : Sizes (d .question)) (p : Passed
       go (no n) = own-kept (heard-old n h)
 
   abbrev InOld : ℕ → ℕ → Type 0
-  InOld = In (Heard q) (placeOf q) (sizeOf q)
+  InOld = In (Heard q) (startOf q) (sizeOf q)
 
   abbrev InNew : ℕ → ℕ → Type 0
-  InNew = In (Heard q′) (placeOf q′) (sizeOf q′)
+  InNew = In (Heard q′) (startOf q′) (sizeOf q′)
 
   in-kept : {g x : ℕ} → InOld g x → InNew g x
   in-kept i = record { is = heard-kept (i .is); from = omega (arith, i .from, place-kept (other (i .is))); to = omega (arith, i .to, place-kept (other (i .is)), size-kept (other (i .is))) }
@@ -163,11 +163,11 @@ module _ (d : Record) (store s : Bytes) (wide : Sizes (d .question)) (p : Passed
   after : {x : ℕ} → InNew f x → d .used ≤ x
   after i = omega (arith, i .from, place-new)
 
-  tiled-kept : Tiled (Heard q′) (placeOf q′) (sizeOf q′) (d .used + length s)
+  tiled-kept : Tiled (Heard q′) (startOf q′) (sizeOf q′) (d .used + length s)
   tiled-kept = record { inside = λ g h. inside g h (ℕ-discrete g f); covered = λ x h. covered x h (decLt x (d .used)); apart = λ g h x i j. apart g h x i j (ℕ-discrete g f) (ℕ-discrete h f) }
     where
-      inside : (g : ℕ) → Heard q′ g → Dec (g ≡ f) → placeOf q′ g + sizeOf q′ g ≤ d .used + length s
-      inside g h (yes e) = subst (λ z. placeOf q′ z + sizeOf q′ z ≤ d .used + length s) (sym e) (omega (arith, place-new, size-new))
+      inside : (g : ℕ) → Heard q′ g → Dec (g ≡ f) → startOf q′ g + sizeOf q′ g ≤ d .used + length s
+      inside g h (yes e) = subst (λ z. startOf q′ z + sizeOf q′ z ≤ d .used + length s) (sym e) (omega (arith, place-new, size-new))
       inside g h (no n) = omega (arith, place-kept n, size-kept n, o .laid .tiled .inside g (heard-old n h))
 
       covered : (x : ℕ) → x < d .used + length s → Dec (x < d .used) → (g : ℕ) × InNew g x

@@ -1,6 +1,7 @@
 -- Any two results that a contract allows are equal; and what a call that refuses nothing has passed.
-use Prim.Native.Nat.{ℕ, _+_, _≤_, _<_}
-use mathlib.Core.Path.{_≡_, refl, sym, _∙_, subst}
+use Prim.Native.Nat.{ℕ, _+_, _≤_}
+use mathlib.Core.Path.{_≡_, sym, ap, _∙_, subst, fun-ext}
+use mathlib.Core.Option.{Option, some}
 use mathlib.Core.Logic.{_≢_}
 use native.Mathlib.Omega.{arith}
 use native.Mathlib.Decide.{ℕ-discrete}
@@ -8,11 +9,14 @@ use lib.ListN.{length}
 use Rattle.meaning.specs.Bytes.{Bytes}
 use Rattle.meaning.specs.Reply.{Reply}
 use Rattle.reply.specs.Read.{Is}
+use Rattle.meaning.specs.Solve.{outcome}
 use Rattle.meaning.proofs.Refused.{One, one-granted, one-unless, through}
-use Rattle.whole.specs.Whole.{Whole, Heard, Shaped}
-use Rattle.desk.specs.Calls.{Opens, Accepts, Asks, Why, OpenRefusal, AskRefusal}
+use Rattle.whole.specs.Whole.{Whole, Heard, Shaped, partOf}
+use Rattle.desk.specs.Calls.{Why, OpenRefusal, AskRefusal, Held, saidOf}
 use Rattle.desk.specs.Promise.{OneOpening, OneAccepting, OneAsking}
+use Rattle.whole.specs.declared.Question.{Question}
 use Rattle.whole.specs.declared.Record.{Record}
+use Rattle.whole.proofs.Pieces.{one-of, heard-or-not}
 
 pub one-why : (d : Record) (store s : Bytes) → One (Why d store s)
 one-why d store s = one-unless (one-unless (one-unless (one-unless (one-unless (one-unless (one-unless one-granted))))))
@@ -57,6 +61,17 @@ one-opening d layout entries number m n a b p q = (e, go (ℕ-discrete m 0))
     go (yes z) = p .opened z ∙ sym (q .opened (sym e ∙ z))
     go (no z) = p .refused z ∙ sym (q .refused (λ w. z (e ∙ w)))
 
+-- the replies held are one function
+held-same : (q : Question) (store : Bytes) (a b : ℕ → Option Reply) → Held q store a → Held q store b → a ≡ b
+held-same q store a b p r = fun-ext (λ f. go f (heard-or-not q f))
+  where
+    go : (f : ℕ) → Dec (Heard q f) → a f ≡ b f
+    go f (yes h) =
+        let x = p .heard f h in
+        let y = r .heard f h in
+        x .1 ∙ ap some (one-of (partOf q store f) (x .0) (y .0) (x .2) (y .2)) ∙ sym (y .1)
+    go f (no n) = p .unheard f n ∙ sym (r .unheard f n)
+
 pub one-asking : OneAsking
 one-asking d store m n a b p q = (e, go (ℕ-discrete m 0))
   where
@@ -64,7 +79,10 @@ one-asking d store m n a b p q = (e, go (ℕ-discrete m 0))
     e = one-ask-refusal d store m n (p .why) (q .why)
 
     go : Dec (m ≡ 0) → a ≡ b
-    go (yes z) = p .answered z ∙ sym (q .answered (sym e ∙ z))
+    go (yes z) =
+        let x = p .answered z in
+        let y = q .answered (sym e ∙ z) in
+        x .2 ∙ ap (λ h. saidOf (outcome (d .question .entries) (d .question .parts) h)) (held-same (d .question) store (x .0) (y .0) (x .1) (y .1)) ∙ sym (y .2)
     go (no z) = p .refused z ∙ sym (q .refused (λ w. z (e ∙ w)))
 
 pub one-accepting : OneAccepting

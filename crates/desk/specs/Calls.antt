@@ -2,24 +2,22 @@
 use Prim.Native.Nat.{ℕ, _+_, _≤_, _<_}
 use mathlib.Core.Path.{_≡_}
 use mathlib.Core.Logic.{_≢_}
-use mathlib.Core.Bool.{true, false, cond}
-use mathlib.Core.Option.{Option, none}
-use lib.ListN.{length, getD}
-use lib.Dec.{eqb}
+use mathlib.Core.Bool.{true, false}
+use mathlib.Core.Option.{Option, none, some}
+use lib.ListN.{length}
 use Rattle.meaning.specs.Bytes.{Bytes}
 use Rattle.meaning.specs.Reply.{Reply}
 use Rattle.meaning.specs.Solve.{Outcome, waiting, said, outcome}
 use Rattle.reply.specs.Read.{Is}
-use Rattle.reply.specs.inner.Decode.{read}
 use Rattle.meaning.specs.Refused.{Unless, Granted}
-use Rattle.whole.specs.Whole.{Keeps, Judging, Heard, partOf, Whole}
+use Rattle.whole.specs.Whole.{OpenRules, Judging, Heard, partOf, Whole}
 use Rattle.desk.specs.Changed.{openedAs, noted, putAt}
 use Rattle.whole.specs.declared.Question.{Question}
 use Rattle.whole.specs.declared.Record.{Record}
 
 -- ---- opening
 abbrev pub OpenRefusal : Record → Bytes → ℕ → ℕ → ℕ → Type 0
-OpenRefusal d layout entries number = Unless (Keeps layout entries) 10 (Unless (d .last < number) 11 Granted)
+OpenRefusal d layout entries number = Unless (OpenRules layout entries) 10 (Unless (d .last < number) 11 Granted)
 
 pub record Opens (d : Record) (layout : Bytes) (entries number refusal : ℕ) (after : Record) : Type 0 where
   pub why : OpenRefusal d layout entries number refusal
@@ -42,9 +40,10 @@ pub record Accepts (d : Record) (store s : Bytes) (refusal : ℕ) (after : Recor
   pub taken : refusal ≡ 0 → (r : Reply) → Is 12 s r → (after ≡ noted d (r .fragment) (length s)) × (stored ≡ putAt (d .used) s store)
 
 -- ---- asking
--- the reply held of a fragment
-abbrev pub held : Question → Bytes → ℕ → Option Reply
-held q store f = cond (eqb (getD (q .heard) f 0) 0) none (read 12 (partOf q store f))
+-- the replies held: of a fragment that is not heard none, of one that is heard the reply that its bytes are
+pub record Held (q : Question) (store : Bytes) (held : ℕ → Option Reply) : Type 0 where
+  pub unheard : (f : ℕ) → (Heard q f → ⊥) → held f ≡ none
+  pub heard : (f : ℕ) → Heard q f → (r : Reply) × (held f ≡ some r) × Is 12 (partOf q store f) r
 
 -- 0 waiting, 1 no, 2 yes
 abbrev pub saidOf : Outcome → ℕ
@@ -58,4 +57,5 @@ AskRefusal d store = Unless (Whole d store) 20 (Unless (d .question .number ≢ 
 pub record Asks (d : Record) (store : Bytes) (refusal answer : ℕ) : Type 0 where
   pub why : AskRefusal d store refusal
   pub refused : refusal ≢ 0 → answer ≡ 0
-  pub answered : refusal ≡ 0 → answer ≡ saidOf (outcome (d .question .entries) (d .question .parts) (held (d .question) store))
+  pub answered : refusal ≡ 0 → (held : ℕ → Option Reply) × Held (d .question) store held
+      × (answer ≡ saidOf (outcome (d .question .entries) (d .question .parts) held))

@@ -3,12 +3,11 @@ use Prim.Native.Nat.{ℕ, _+_, _-_}
 use mathlib.Core.List.{_++_}
 use lib.ListN.{length, set, take, drop, replicate}
 use Rattle.meaning.specs.Bytes.{Bytes}
-use Rattle.whole.specs.declared.Question.{Question}
 use Rattle.whole.specs.declared.Record.{Record}
 
 -- a fresh record
-abbrev pub blank : Record
-blank = record {
+abbrev pub freshRecord : Record
+freshRecord = record {
   last = 0;
   used = 0;
   question = record { number = 0; entries = 0; parts = 0; layout = replicate 32 0; heard = replicate 32 0; place = replicate 32 0; size = replicate 32 0 };

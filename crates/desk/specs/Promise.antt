@@ -1,13 +1,11 @@
 -- WHAT IS PROVED of the desk's calls: each promise is a type, and proofs/ has an element of it under its name (`one-opening` of `OneOpening`).
-use Prim.Native.Nat.{ℕ, _≤_, _<_}
+use Prim.Native.Nat.{ℕ, _≤_}
 use mathlib.Core.Path.{_≡_}
 use mathlib.Core.Logic.{_≢_}
-use lib.ListN.{length}
 use Rattle.meaning.specs.Bytes.{Bytes}
-use Rattle.whole.specs.Whole.{Keeps, Whole}
-use Rattle.desk.specs.Changed.{blank}
+use Rattle.whole.specs.Whole.{OpenRules, Whole, Sizes}
+use Rattle.desk.specs.Changed.{freshRecord}
 use Rattle.desk.specs.Calls.{Opens, Accepts, Asks}
-use Rattle.whole.specs.inner.Steps.{Sizes}
 use Rattle.whole.specs.declared.Record.{Record}
 
 -- ---- any two results that a contract allows are equal
@@ -36,9 +34,9 @@ AcceptingKeeps = (d : Record) (store s : Bytes) (m : ℕ) (a : Record) (x : Byte
 
 -- a fresh record is whole, with any store
 abbrev pub FreshWhole : Type 0
-FreshWhole = (store : Bytes) → Whole blank store
+FreshWhole = (store : Bytes) → Whole freshRecord store
 
--- after number 4,294,967,295 every opening that escapes 10 gets 11
+-- after number 4,294,967,295 every opening that escapes 10 gets 11 (a number above it stands only in a record that the host filled)
 abbrev pub AfterTheLast : Type 0
-AfterTheLast = (d : Record) (layout : Bytes) (entries number n : ℕ) (a : Record) → d .last ≡ 4_294_967_295 → number ≤ 4_294_967_295 → Keeps layout entries
-    → Opens d layout entries number n a → n ≡ 11
+AfterTheLast = (d : Record) (layout : Bytes) (entries number n : ℕ) (a : Record) → 4_294_967_295 ≤ d .last → number ≤ 4_294_967_295
+    → OpenRules layout entries → Opens d layout entries number n a → n ≡ 11

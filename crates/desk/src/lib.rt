@@ -14,25 +14,30 @@ ghost use Prim.Native.Nat.{_+_, _^_, _≤_, _<_};
 ghost use lib.ListN.{length};
 ghost use Rattle.meaning.specs.Register.{Layout};
 ghost use Rattle.desk.specs.Calls.{Opens, Why, Accepts, Asks};
-ghost use Rattle.desk.specs.Changed.{blank, openedAs, noted};
+ghost use Rattle.desk.specs.Changed.{freshRecord, openedAs, noted};
 
 // A refusal (0: none), and the record afterwards.
-#[repr(C)]
 pub struct Answer {
     pub refusal: u8,
     pub desk: Record,
 }
 
-// A refusal (0: none), and what is said: 0 waiting, 1 no, 2 yes.
+// A refusal (0: none), and what is said (0 where refused).
 #[repr(C)]
 pub struct Asked {
     pub refusal: u8,
     pub said: u8,
 }
 
+const WAITING: u8 = 0;
+
+const NO: u8 = 1;
+
+const YES: u8 = 2;
+
 #[no_mangle]
 pub extern "C" fn desk_fresh() -> Record
-    ensures { λ r. ⌜ r ≡ blank ⌝ }
+    ensures { λ r. ⌜ r ≡ freshRecord ⌝ }
 {
     Record {
         last: 0,
@@ -50,7 +55,7 @@ pub extern "C" fn desk_fresh() -> Record
 }
 
 // The record of a question that is just opened.
-fn opened_as(layout: &[u8], entries: usize, number: u32) -> Record
+fn opened_as(layout: &[u8], entries: usize, number: u64) -> Record
     requires { ⌜ length (now layout) ≤ 32 ⌝ }
     ensures { λ r. ⌜ r ≡ openedAs (now (layout .entry)) entries number ⌝ }
 {
@@ -93,13 +98,14 @@ pub fn opened(desk: Record, layout: &[u8], entries: usize, number: u32) -> Answe
             desk: desk,
         };
     }
-    if number <= desk.last {
+    let n = number as u64;
+    if n <= desk.last {
         return Answer {
             refusal: 11,
             desk: desk,
         };
     }
-    let d = opened_as(layout, entries, number);
+    let d = opened_as(layout, entries, n);
     Answer {
         refusal: 0,
         desk: d,
@@ -190,9 +196,8 @@ pub extern "C" fn desk_accept(desk: &mut Record, store: &mut [u8], reply: &[u8])
     a.refusal
 }
 
-// What is said of the open question.
-#[no_mangle]
-pub extern "C" fn desk_ask(desk: Record, store: &[u8]) -> Asked
+// Asking, by value.
+pub fn asked_of(desk: Record, store: &[u8]) -> Asked
     ensures { λ r. ⌜ Asks desk (now (store .entry)) (r .refusal) (r .said) ⌝ }
 {
     if !whole(desk, store) {
@@ -211,17 +216,25 @@ pub extern "C" fn desk_ask(desk: Record, store: &[u8]) -> Asked
     if !all_heard(q) {
         return Asked {
             refusal: 0,
-            said: 0,
+            said: WAITING,
         };
     }
     if answer(q, desk.used, store) == 0 {
         return Asked {
             refusal: 0,
-            said: 1,
+            said: NO,
         };
     }
     Asked {
         refusal: 0,
-        said: 2,
+        said: YES,
     }
+}
+
+// What is said of the open question.
+#[no_mangle]
+pub extern "C" fn desk_ask(desk: &Record, store: &[u8]) -> Asked
+    ensures { λ r. ⌜ Asks (now (desk .entry)) (now (store .entry)) (r .refusal) (r .said) ⌝ }
+{
+    asked_of(*desk, store)
 }

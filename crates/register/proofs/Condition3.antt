@@ -2,6 +2,7 @@
 use Prim.Native.Nat.{ℕ, zero, suc, _+_, _-_, _^_, _≤_, _<_}
 use native.Mathlib.Omega.{arith}
 use mathlib.Core.Path.{_≡_, refl, sym, ap, _∙_, subst}
+use mathlib.Core.Bool.{Bool}
 use mathlib.Core.Logic.{_⊎_, inl, inr, _↔_}
 use mathlib.Core.List.{List}
 use lib.ListN.{length}
@@ -9,7 +10,10 @@ use Rattle.meaning.specs.Bytes.{Bytes}
 use Rattle.meaning.specs.Holds.{Holds}
 use Rattle.meaning.specs.Reply.{Reply}
 use Rattle.meaning.specs.Register.{parts, rowsIn, Cut, joined}
-use Rattle.meaning.specs.Bound.{stepBound}
+use Rattle.meaning.specs.Says.{Says}
+use Rattle.meaning.specs.Entry.{Entry}
+use Rattle.meaning.specs.Fragment.{rowCount}
+use Rattle.meaning.specs.Bound.{Open, stepBound}
 use Rattle.meaning.proofs.Bound.{step-bound}
 use Rattle.question.specs.Listed.{listed}
 use Rattle.question.proofs.Listed.{listed-length, keeps-earlier}
@@ -95,13 +99,17 @@ steps-bounded R f s fits b = record {
       (subst (λ t. length (t .steps) ≤ stepBound (length es) (rowsIn (R .register) f) (bound .0)) (sym (is r i)) (bound .2));
 }
   where
+    es : List (Entry Bytes)
     es = listed (R .list) (R .text)
 
+    c : Replied R f
     c = b .called
 
     g : Granting (callOf R f)
     g = granting (callOf R f) (c .work) (c .out) (c .size) (c .work′) (c .out′) (c .replying)
 
+    bound : (isOpen : ℕ → Bool) × ((k : ℕ) → k < rowCount (R .register .fragment f) → Says (Open (rowsIn (R .register) f) k) (isOpen k))
+        × (length (replyOf R f .steps) ≤ stepBound (length es) (rowsIn (R .register) f) isOpen)
     bound = step-bound (R .number) f (R .register .fragment f) (g .sound) es (keeps-earlier (R .list) (R .text) (g .keeps))
 
     is : (r : Reply) → Is 12 s r → r ≡ replyOf R f

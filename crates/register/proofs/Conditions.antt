@@ -2,13 +2,11 @@
 use Prim.Native.Nat.{ℕ, zero, suc, _+_, _-_, _*_, _^_, _≤_, _<_}
 use native.Mathlib.Omega.{arith}
 use mathlib.Core.Path.{_≡_, refl, sym, ap, _∙_, subst}
-use mathlib.Core.Bool.{Bool, true, false, cond}
+use mathlib.Core.Bool.{Bool, true, false}
 use mathlib.Core.Logic.{_≢_, _⊎_, inl, inr, _↔_}
-use mathlib.Core.Option.{none, some}
 use mathlib.Core.List.{List, [], _∷_, _++_, List·Memᴰ, List·Memᴰ·head, List·Memᴰ·tail, List·Memᴰ·not-nil}
 use lib.ListN.{length, getD, take, drop, replicate, getD-replicate}
 use lib.Seq.{take-append-seam}
-use lib.Dec.{eqb}
 use Rattle.meaning.specs.Bytes.{Bytes}
 use Rattle.meaning.specs.Tree.{Tree}
 use Rattle.meaning.specs.Entry.{Entry, entries, top, EntryHolds}
@@ -23,16 +21,15 @@ use Rattle.reader.specs.declared.Answer.{Answer}
 use Rattle.reader.specs.Read.{Written, Read}
 use Rattle.reader.proofs.Outcome.{read-listed}
 use Rattle.reply.specs.Read.{Is}
-use Rattle.reply.specs.inner.Decode.{read}
 use Rattle.reply.specs.WellFormed.{WellFormed}
 use Rattle.reply.proofs.Round.{fits-12, round-trip}
 use Rattle.depot.specs.Answer.{laid}
 use Rattle.depot.proofs.Promised.{laid-well-formed}
 use Rattle.question.proofs.Listed.{listed-length}
 use Rattle.meaning.specs.Refused.{Unless, Granted}
-use Rattle.whole.specs.Whole.{Whole, partOf}
+use Rattle.whole.specs.Whole.{Whole, Heard}
 use Rattle.desk.specs.Changed.{openedAs}
-use Rattle.desk.specs.Calls.{Opens, Accepts, Asks, Why, held, saidOf}
+use Rattle.desk.specs.Calls.{Opens, Accepts, Asks, Why, saidOf}
 use Rattle.desk.proofs.Unique.{one-why, one-ask-refusal}
 use Rattle.meaning.proofs.Refused.{through}
 use Rattle.desk.proofs.Keeping.{opening-whole}
@@ -95,13 +92,14 @@ nothing-carries-over old d store layout entries number o = (waiting, foreign)
     asked : d .question .number ≢ 0
     asked z = omega (arith, above, number-is, z)
 
-    first : held (d .question) store 0 ≡ none
-    first = ap (λ y. cond (eqb y 0) none (read 12 (partOf (d .question) store 0))) (ap (λ b. getD (b .question .heard) 0 0) is ∙ getD-replicate 32 0 0 0 (omega arith))
+    silent : Heard (d .question) 0 → ⊥
+    silent h = h .1 (ap (λ b. getD (b .question .heard) 0 0) is ∙ getD-replicate 32 0 0 0 (omega arith))
 
     waiting : (n a : ℕ) → Asks d store n a → (n ≡ 0) × (a ≡ 0)
     waiting n a k =
         let z : n ≡ 0 = one-ask-refusal d store n 0 (k .why) (Unless.passed whole (Unless.passed asked Granted.granted)) in
-        (z, k .answered z ∙ ap saidOf (waits (d .question .entries) (d .question .parts) (held (d .question) store) 0 (omega (arith, some-part, ap (λ b. b .question .parts) is)) first))
+        let y = k .answered z in
+        (z, y .2 ∙ ap saidOf (waits (d .question .entries) (d .question .parts) (y .0) 0 (omega (arith, some-part, ap (λ b. b .question .parts) is)) (y .1 .unheard 0 silent)))
 
     foreign : (s : Bytes) (r : Reply) → Is 12 s r → r .number ≢ number → (n : ℕ) (e : Record) (x : Bytes) → Accepts d store s n e x → n ≡ 14
     foreign s r i u n e x c = one-why d store s n 14 (c .why) (Unless.passed whole (Unless.passed asked (Unless.passed (r, i) (Unless.refused (λ y. u (y r i ∙ number-is))))))

@@ -14,9 +14,8 @@ use Rattle.meaning.specs.Reply.{Reply}
 use Rattle.meaning.proofs.Numbers.{eqb-false}
 use Rattle.reply.specs.Write.{write}
 use Rattle.reply.specs.Read.{Is}
-use Rattle.whole.specs.Whole.{Whole, Opened, Heard, partOf, layoutOf}
+use Rattle.whole.specs.Whole.{Whole, Opened, Heard, partOf, layoutOf, Sizes}
 use Rattle.desk.specs.Changed.{openedAs, noted, putAt}
-use Rattle.whole.specs.inner.Steps.{Sizes}
 use Rattle.desk.specs.Calls.{Opens, Accepts, Asks, Why}
 use Rattle.desk.proofs.Unique.{one-why, Passed, passed}
 use Rattle.desk.proofs.Keeping as Keeping

@@ -3,9 +3,9 @@ use Prim.Native.Nat.{ℕ, zero, suc, _+_, _-_, _≤_, _<_}
 use native.Mathlib.Omega.{arith}
 use native.Mathlib.Decide.{ℕ-discrete}
 use mathlib.Core.Path.{_≡_, refl, sym, ap, _∙_, subst}
-use mathlib.Core.Bool.{Bool, true, false, not, cond}
+use mathlib.Core.Bool.{Bool, true, false, not}
 use mathlib.Core.Logic.{_≢_, _⊎_, inl, inr}
-use mathlib.Core.Option.{Option, none, some}
+use mathlib.Core.Option.{Option, some}
 use mathlib.Core.List.{List, List·Memᴰ}
 use lib.ListN.{length, getD, take, set}
 use lib.Dec.{eqb}
@@ -24,14 +24,12 @@ use Rattle.question.specs.Listed.{listed}
 use Rattle.reply.specs.Write.{write}
 use Rattle.reply.specs.WellFormed.{WellFormed}
 use Rattle.reply.specs.Read.{Is}
-use Rattle.reply.specs.inner.Decode.{read}
-use Rattle.reply.proofs.Round.{fits-12, write-read, one-reply}
+use Rattle.reply.proofs.Round.{fits-12, one-reply}
 use Rattle.question.proofs.Listed.{listed-length, keeps-earlier}
 use Rattle.depot.proofs.Promised.{laid-well-formed}
 use Rattle.meaning.specs.Refused.{Unless, Granted}
-use Rattle.whole.specs.Whole.{Whole, Opened, Heard, Shaped, layoutOf, partOf}
-use Rattle.whole.specs.inner.Steps.{Sizes}
-use Rattle.desk.specs.Calls.{Opens, Accepts, Asks, Why, Room, held, saidOf, AskRefusal}
+use Rattle.whole.specs.Whole.{Whole, Opened, Heard, Shaped, layoutOf, partOf, Sizes}
+use Rattle.desk.specs.Calls.{Opens, Accepts, Asks, Why, Room, Held, saidOf, AskRefusal}
 use Rattle.desk.proofs.Unique.{one-why, one-ask-refusal}
 use Rattle.whole.specs.declared.Question.{Question}
 use Rattle.whole.specs.declared.Record.{Record}
@@ -153,27 +151,24 @@ module _ (R : Round) (a : Asked R) where
     asks = Unless.passed whole (Unless.passed asked Granted.granted)
 
     pub waits-for : (f : ℕ) → f < many → (Heard (d .question) f → ⊥) → (n x : ℕ) → Asks d store n x → (n ≡ 0) × (x ≡ 0)
-    waits-for f h u n x k = (z, k .answered z ∙ ap saidOf (waits (d .question .entries) (d .question .parts) (held (d .question) store) f (rw (w .parts-is) h) (ap (λ y. cond (eqb y 0) none (read 12 (partOf (d .question) store f))) (silent f h u))))
+    waits-for f h u n x k = let y = k .answered z in (z, y .2 ∙ ap saidOf (waits (d .question .entries) (d .question .parts) (y .0) f (rw (w .parts-is) h) (y .1 .unheard f u)))
       where
         z : n ≡ 0
         z = one-ask-refusal d store n 0 (k .why) asks
 
-    holds : (f : ℕ) → f < many → Heard (d .question) f → held (d .question) store f ≡ some (replyOf R f)
-    holds f h x =
-        ap (λ b. cond b none (read 12 (partOf (d .question) store f))) (eqb-false (getD (d .question .heard) f 0) 0 (x .1))
-        ∙ ap (read 12) (w .only f x .2)
-        ∙ write-read 12 (replyOf R f) (formed f h) (fits-12 (replyOf R f) (formed f h))
+    holds : (held : ℕ → Option Reply) → Held (d .question) store held → (f : ℕ) → f < many → Heard (d .question) f → held f ≡ some (replyOf R f)
+    holds held y f h x = let r = y .heard f x in r .1 ∙ ap some (same-reply (bytesOf R f) (r .0) (replyOf R f) (subst (λ s. Is 12 s (r .0)) (w .only f x .2) (r .2)) (is-laid f h))
 
-    solves-all : ((f : ℕ) → f < many → Heard (d .question) f)
-        → (b : Bool) × (outcome (d .question .entries) (d .question .parts) (held (d .question) store) ≡ said b) × Says (Meaning R) b
-    solves-all h =
+    solves-all : (held : ℕ → Option Reply) → Held (d .question) store held → ((f : ℕ) → f < many → Heard (d .question) f)
+        → (b : Bool) × (outcome (d .question .entries) (d .question .parts) held ≡ said b) × Says (Meaning R) b
+    solves-all held y h =
         let es = listed (R .list) (R .text) in
         rw (w .entries-is, w .parts-is)
-        (solves (HereIn (R .register) es) (LowerIn (R .register) es) (R .list .count) many (omega (arith, a .keeps .some-entry)) (omega (arith, a .cut .layout .some-part)) (held (d .question) store)
-        (λ f k. (replyOf R f, holds f k (h f k), subst (λ n. Lawful (HereIn (R .register) es) (LowerIn (R .register) es) n many f (replyOf R f)) (listed-length (R .list) (R .text)) (depot-lawful (R .register) (a .cut) es (keeps-earlier (R .list) (R .text) (a .keeps)) (R .number) f k))))
+        (solves (HereIn (R .register) es) (LowerIn (R .register) es) (R .list .count) many (omega (arith, a .keeps .some-entry)) (omega (arith, a .cut .layout .some-part)) held
+        (λ f k. (replyOf R f, holds held y f k (h f k), subst (λ n. Lawful (HereIn (R .register) es) (LowerIn (R .register) es) n many f (replyOf R f)) (listed-length (R .list) (R .text)) (depot-lawful (R .register) (a .cut) es (keeps-earlier (R .list) (R .text) (a .keeps)) (R .number) f k))))
 
     pub answers : ((f : ℕ) → f < many → Heard (d .question) f) → (n x : ℕ) → Asks d store n x → (n ≡ 0) × (((x ≡ 2) × Meaning R) ⊎ ((x ≡ 1) × (Meaning R → ⊥)))
-    answers h n x k = (z, go (solves-all h .0) (k .answered z ∙ ap saidOf (solves-all h .1)) (solves-all h .2))
+    answers h n x k = let y = k .answered z in let t = solves-all (y .0) (y .1) h in (z, go (t .0) (y .2 ∙ ap saidOf (t .1)) (t .2))
       where
         z : n ≡ 0
         z = one-ask-refusal d store n 0 (k .why) asks

@@ -17,10 +17,10 @@ use Rattle.reply.specs.inner.Decode.{entriesOf, decoded}
 use Rattle.reply.specs.inner.Checked.{Checked}
 use Rattle.reply.proofs.Lists.{tab-at}
 use Rattle.reply.proofs.Round.{is-the, checked-of}
-use Rattle.whole.specs.Whole.{Heard, placeOf, sizeOf, partOf, Opened}
+use Rattle.whole.specs.Whole.{Heard, startOf, sizeOf, partOf, Opened}
 use Rattle.solving.specs.inner.Values.{truths, valuesIn, RowPut, Agree, kept, answerOf}
 use Rattle.whole.specs.declared.Question.{Question}
-use Rattle.whole.proofs.Pieces.{part-is}
+use Rattle.whole.proofs.Pieces.{part-is, own-reply}
 use Rattle.solving.proofs.Replies.{none-at}
 
 -- ---- values that agree give the same answers
@@ -90,16 +90,16 @@ rows-agree n r f v d v′ d′ a b p q x y = record {
 -- ---- the replies held
 module _ (q : Question) (used : ℕ) (store : Bytes) (o : Opened q used store) where
   pub part-sound : (f : ℕ) → Heard q f → Checked 12 (partOf q store f)
-  part-sound f h = let w = o .laid .replies f h in checked-of 12 (partOf q store f) (w .reply) (w .free .is)
+  part-sound f h = let w = own-reply (o .laid .replies f h) in checked-of 12 (partOf q store f) (w .reply) (w .free .is)
 
   entries-are : (f : ℕ) → Heard q f → entriesOf (partOf q store f) ≡ q .entries
   unfolding decoded
-  entries-are f h = let w = o .laid .replies f h in ap (λ (z : Reply). z .entries) (sym (is-the 12 (partOf q store f) (w .reply) (w .free .is))) ∙ w .free .shaped .entries-same
+  entries-are f h = let w = own-reply (o .laid .replies f h) in ap (λ (z : Reply). z .entries) (sym (is-the 12 (partOf q store f) (w .reply) (w .free .is))) ∙ w .free .shaped .entries-same
 
-  pub part-end : (f : ℕ) → Heard q f → placeOf q f + sizeOf q f ≤ length store
+  pub part-end : (f : ℕ) → Heard q f → startOf q f + sizeOf q f ≤ length store
   part-end f h = omega (arith, o .laid .tiled .inside f h, o .laid .fits)
 
-  module _ (f : ℕ) (h : Heard q f) (p n : ℕ) (ep : p ≡ placeOf q f) (en : n ≡ sizeOf q f) where
+  module _ (f : ℕ) (h : Heard q f) (p n : ℕ) (ep : p ≡ startOf q f) (en : n ≡ sizeOf q f) where
     pub sound-here : Checked 12 (take (p + n - p) (drop p store))
     sound-here = subst (λ s. Checked 12 s) (sym (part-is q store f p n ep en)) (part-sound f h)
 

@@ -2,7 +2,7 @@
 // every order, each twice, and is asked after each.
 use depot::depot_reply;
 use desk::accepted;
-use desk::desk_ask;
+use desk::asked_of;
 use desk::desk_fresh;
 use desk::opened;
 use question::List;
@@ -216,7 +216,7 @@ fn order(entries: usize, x: &[u8], y: &[u8], z: &[u8]) -> u8 {
     let t2 = waits(u2, &store);
     let t3 = twice(t2, &mut store, z);
     let last = t3.desk;
-    let s = desk_ask(last, &store);
+    let s = asked_of(last, &store);
     if t3.right {
         return s.said;
     }
@@ -243,7 +243,7 @@ fn twice(t: Turn, store: &mut [u8], reply: &[u8]) -> Turn {
 // The desk says waiting.
 fn waits(t: Turn, store: &[u8]) -> Turn {
     let desk = t.desk;
-    let s = desk_ask(desk, store);
+    let s = asked_of(desk, store);
     if s.refusal != 0 {
         return wrong(desk);
     }

@@ -6,6 +6,7 @@ use mathlib.Core.List.{List, List·Memᴰ}
 use mathlib.Core.Logic.{_⊎_, ⊎-elim, _≢_}
 use native.Mathlib.Omega.{arith}
 use native.Mathlib.Nat.{min-le-left}
+use native.Mathlib.Decide.{decLt, ℕ-discrete}
 use lib.ListN.{length, getD, take, drop, length-take}
 use Rattle.meaning.specs.Says.{Says}
 use Rattle.meaning.specs.Bytes.{Bytes}
@@ -18,7 +19,7 @@ use Rattle.reply.specs.inner.Fields.{HeadIs}
 use Rattle.reply.specs.declared.Head.{Head}
 use Rattle.reply.proofs.Round.{Fields, fields-of, is-the, checked-of}
 use Rattle.meaning.specs.Refused.{refused, passed, granted}
-use Rattle.whole.specs.Whole.{layoutOf, Rules, Shaped, Free, Heard, placeOf, sizeOf, partOf, Own, Laid, Opened, Whole, closed, opened}
+use Rattle.whole.specs.Whole.{layoutOf, Rules, Shaped, Heard, startOf, sizeOf, partOf, Own, Laid, Opened, Whole, closed, opened}
 use Rattle.whole.specs.inner.Steps.{StandsFor, Judged, Starts, PartOk, FragmentOk}
 use Rattle.whole.specs.declared.Question.{Question}
 use Rattle.whole.specs.declared.Record.{Record}
@@ -101,12 +102,21 @@ module _ (q : Question) (s : Bytes) (r : Reply) (i : Is 12 s r) (h : Head) (H : 
         shaped : Shaped q r
         shaped = record { fragment-in = omega (arith, fragment-is); entries-same = sym entries-is ∙ ee; children = λ g. (to g, from g) }
 
+-- the bytes s are the reply r, free of 13, 14 and 15
+pub record Free (q : Question) (s : Bytes) (r : Reply) : Type 0 where
+  pub is : Is 12 s r
+  pub number-same : r .number ≡ q .number
+  pub shaped : Shaped q r
+
 -- what a judgement says of being free
 pub judged-free : {q : Question} {s : Bytes} {c : ℕ} → Judged q s c → c ≡ 0 → (r : Reply) × Free q s r
 judged-free (refused h) e = absurd (omega arith)
 judged-free (passed t (refused h)) e = absurd (omega arith)
 judged-free (passed t (passed n (refused h))) e = absurd (omega arith)
 judged-free (passed t (passed n (passed k granted))) e = (t .0, record { is = t .1; number-same = n (t .0) (t .1); shaped = k (t .0) (t .1) })
+
+pub free-judged : {q : Question} {s : Bytes} {r : Reply} → Free q s r → Judged q s 0
+free-judged {q} {s} {r} f = passed (r, f .is) (passed (λ t i. ap (λ (z : Reply). z .number) (one-of s t r i (f .is)) ∙ f .number-same) (passed (λ t i. subst (Shaped q) (one-of s r t (f .is) i) (f .shaped)) granted))
 
 pub judged-not : {q : Question} {s : Bytes} {c : ℕ} → Judged q s c → c ≢ 0 → (r : Reply) → Free q s r → ⊥
 judged-not (refused h) e t g = h (t, g .is)
@@ -115,28 +125,48 @@ judged-not {q} {s} (passed u (passed n (refused h))) e t g = h (λ r i. subst (S
 judged-not (passed t (passed n (passed k granted))) e u g = e refl
 
 -- ---- one fragment's bytes
-pub part-is : (q : Question) (store : Bytes) (f p n : ℕ) → p ≡ placeOf q f → n ≡ sizeOf q f → take (p + n - p) (drop p store) ≡ partOf q store f
+pub heard-or-not : (q : Question) (f : ℕ) → Dec (Heard q f)
+heard-or-not q f = go (decLt f 32) (ℕ-discrete (getD (q .heard) f 0) 0)
+  where
+    go : Dec (f < 32) → Dec (getD (q .heard) f 0 ≡ 0) → Dec (Heard q f)
+    go (yes l) (yes z) = no (λ h. h .1 z)
+    go (yes l) (no n) = yes (l, n)
+    go (no l) z = no (λ h. l (h .0))
+
+-- the reply that they are
+pub record OwnReply (q : Question) (store : Bytes) (f : ℕ) : Type 0 where
+  pub reply : Reply
+  pub free : Free q (partOf q store f) reply
+  pub own : reply .fragment ≡ f
+
+pub own-reply : {q : Question} {store : Bytes} {f : ℕ} → Own q store f → OwnReply q store f
+own-reply o = let t = judged-free (o .judged) refl in record { reply = t .0; free = t .1; own = o .own (t .0) (t .1 .is) }
+
+pub reply-own : {q : Question} {store : Bytes} {f : ℕ} → OwnReply q store f → Own q store f
+reply-own {q} {store} {f} o = record { judged = free-judged (o .free); own = λ r i. ap (λ (z : Reply). z .fragment) (one-of (partOf q store f) r (o .reply) i (o .free .is)) ∙ o .own }
+
+pub part-is : (q : Question) (store : Bytes) (f p n : ℕ) → p ≡ startOf q f → n ≡ sizeOf q f → take (p + n - p) (drop p store) ≡ partOf q store f
 part-is q store f p n ep en = let e : p + n - p ≡ n = omega arith in rw (e, ep, en) refl
 
 pub long-enough : {q : Question} {s : Bytes} {c : ℕ} → Judged q s c → c ≡ 0 → 8 ≤ length s
 long-enough {q} {s} j e = let t = judged-free j e in omega (arith, checked-of 12 s (t .0) (t .1 .is) .head)
 
 part-good : (q : Question) (used : ℕ) (store : Bytes) (f c : ℕ) (h : Head) {b : Bool} → Judged q (partOf q store f) c → c ≡ 0 → HeadIs (partOf q store f) h
-    → placeOf q f + sizeOf q f ≤ used → Says (h .fragment ≡ f) b → Says (PartOk q used store f) b
+    → startOf q f + sizeOf q f ≤ used → Says (h .fragment ≡ f) b → Says (PartOk q used store f) b
 part-good q used store f c h j e H i =
     let s = partOf q store f in
     let t = judged-free j e in
     let x : h .fragment ≡ t .0 .fragment = fragment-is q s (t .0) (t .1 .is) h H in
     says-iff
-    (λ y. record { inside = i; reply = record { reply = t .0; free = t .1; own = sym x ∙ y } })
-    (λ k. x ∙ ap (λ (z : Reply). z .fragment) (one-of s (t .0) (k .reply .reply) (t .1 .is) (k .reply .free .is)) ∙ k .reply .own)
+    (λ y. record { inside = i; reply = reply-own (record { reply = t .0; free = t .1; own = sym x ∙ y }) })
+    (λ k. x ∙ k .reply .own (t .0) (t .1 .is))
 
 pub part-says : (q : Question) (used : ℕ) (store : Bytes) (f c : ℕ) (h : Head) (s : Bytes) {b : Bool} → s ≡ partOf q store f → Judged q s c → c ≡ 0 → HeadIs s h
-    → placeOf q f + sizeOf q f ≤ used → Says (h .fragment ≡ f) b → Says (PartOk q used store f) b
+    → startOf q f + sizeOf q f ≤ used → Says (h .fragment ≡ f) b → Says (PartOk q used store f) b
 part-says q used store f c h s x j e H i y = part-good q used store f c h (subst (λ t. Judged q t c) x j) e (subst (λ t. HeadIs t h) x H) i y
 
 pub part-not : (q : Question) (used : ℕ) (store : Bytes) (f c : ℕ) (s : Bytes) → s ≡ partOf q store f → Judged q s c → c ≢ 0 → PartOk q used store f → ⊥
-part-not q used store f c s x j n k = judged-not j n (k .reply .reply) (subst (λ t. Free q t (k .reply .reply)) (sym x) (k .reply .free))
+part-not q used store f c s x j n k = let w = own-reply (k .reply) in judged-not j n (w .reply) (subst (λ t. Free q t (w .reply)) (sym x) (w .free))
 
 -- ---- the layout
 pub front-is : (n : ℕ) (l m : List ℕ) → l ≡ m → take (n - 0) (drop 0 l) ≡ take n m
@@ -149,26 +179,27 @@ rules-says q L e few one most k =
 -- ---- the whole store
 some-size : (q : Question) (store : Bytes) (f : ℕ) → Own q store f → 0 < sizeOf q f
 some-size q store f o =
-    let h = checked-of 12 (partOf q store f) (o .reply) (o .free .is) in
-    omega (arith, h .head, length-take (sizeOf q f) (drop (placeOf q f) store), min-le-left (sizeOf q f) (length (drop (placeOf q f) store)))
+    let w = own-reply o in
+    let h = checked-of 12 (partOf q store f) (w .reply) (w .free .is) in
+    omega (arith, h .head, length-take (sizeOf q f) (drop (startOf q f) store), min-le-left (sizeOf q f) (length (drop (startOf q f) store)))
 
 module _ (q : Question) (used : ℕ) (store : Bytes) where
-  laid-tested : Laid q used store → Tested (Heard q) (placeOf q) (sizeOf q) used
-  laid-tested l = tiled-tested (Heard q) (placeOf q) (sizeOf q) used (λ f h. some-size q store f (l .replies f h)) (l .tiled)
+  laid-tested : Laid q used store → Tested (Heard q) (startOf q) (sizeOf q) used
+  laid-tested l = tiled-tested (Heard q) (startOf q) (sizeOf q) used (λ f h. some-size q store f (l .replies f h)) (l .tiled)
 
   pub laid-fragment : Laid q used store → (f : ℕ) → Heard q f → FragmentOk q used store f
   laid-fragment l f h =
       let t = laid-tested l in
       record { part = record { inside = t .inside f h; reply = l .replies f h }; apart = λ g k n. t .pairs f g h k n; follows = t .follows f h }
 
-  pub laid-begins : Laid q used store → used ≢ 0 → Starts (Heard q) (placeOf q) (sizeOf q) 0
+  pub laid-begins : Laid q used store → used ≢ 0 → Starts (Heard q) (startOf q) (sizeOf q) 0
   laid-begins l n = ⊎-elim (λ e. absurd (n e)) (λ s. s) (laid-tested l .begins)
 
-  pub laid-of : used ≤ length store → ((f : ℕ) → Heard q f → FragmentOk q used store f) → (used ≡ 0) ⊎ Starts (Heard q) (placeOf q) (sizeOf q) 0 → Laid q used store
+  pub laid-of : used ≤ length store → ((f : ℕ) → Heard q f → FragmentOk q used store f) → (used ≡ 0) ⊎ Starts (Heard q) (startOf q) (sizeOf q) 0 → Laid q used store
   laid-of r k b = record {
     fits = r;
     replies = λ f h. k f h .part .reply;
-    tiled = tested-tiled (Heard q) (placeOf q) (sizeOf q) used (λ f h. some-size q store f (k f h .part .reply))
+    tiled = tested-tiled (Heard q) (startOf q) (sizeOf q) used (λ f h. some-size q store f (k f h .part .reply))
         (record { inside = λ f h. k f h .part .inside; pairs = λ f g h i n. k f h .apart g i n; follows = λ f h. k f h .follows; begins = b });
   }
 

@@ -9,14 +9,14 @@ ghost use lib.ListN.{length, getD};
 ghost use Rattle.meaning.specs.Says.{Says};
 ghost use Rattle.meaning.specs.Register.{parentOf, Layout};
 ghost use Rattle.reply.specs.inner.Decode.{insTo, inAt};
-ghost use Rattle.whole.specs.Whole.{Rules, Heard, placeOf, sizeOf, Laid, Whole};
+ghost use Rattle.whole.specs.Whole.{Rules, Heard, startOf, sizeOf, Laid, Whole};
 ghost use Rattle.whole.specs.inner.Steps.{StandsFor, Judged, Starts, Apart, PartOk, FragmentOk};
 
 // A question: its number (0: none is open), entry count, layout, and for each fragment whether it is heard (0: it is not),
 // where its reply starts in the store and how many bytes it has.
 #[repr(C)]
 pub struct Question {
-    pub number: u32,
+    pub number: u64,
     pub entries: usize,
     pub parts: usize,
     pub layout: [u8; 32],
@@ -28,7 +28,7 @@ pub struct Question {
 // The last number opened, how many bytes of the store are used, and the question.
 #[repr(C)]
 pub struct Record {
-    pub last: u32,
+    pub last: u64,
     pub used: usize,
     pub question: Question,
 }
@@ -146,7 +146,7 @@ pub fn judge(q: Question, s: &[u8]) -> u8
     let f = h.fragment as usize;
     let k = h.ins;
     let parts = q.parts;
-    if h.number != q.number {
+    if h.number as u64 != q.number {
         return 14;
     }
     if parts <= f {
@@ -169,7 +169,7 @@ pub fn judge(q: Question, s: &[u8]) -> u8
 
 pub fn place_of(q: Question, f: usize) -> usize
     requires { ⌜ f < 32 ⌝ }
-    ensures { λ r. ⌜ r ≡ placeOf q f ⌝ }
+    ensures { λ r. ⌜ r ≡ startOf q f ⌝ }
 {
     q.place[f]
 }
@@ -212,8 +212,8 @@ fn part_ok(q: Question, used: usize, store: &[u8], f: usize) -> bool
 
 // If g is another heard fragment, whether its bytes and f's are apart.
 fn apart(q: Question, f: usize, g: usize) -> bool
-    requires { ⌜ (f < 32) × (g < 32) × (placeOf q f + sizeOf q f < 2 ^ 64) ⌝ }
-    ensures { λ r. ⌜ Says (Heard q g → (g ≡ f → ⊥) → Apart (Heard q) (placeOf q) (sizeOf q) f g) r ⌝ }
+    requires { ⌜ (f < 32) × (g < 32) × (startOf q f + sizeOf q f < 2 ^ 64) ⌝ }
+    ensures { λ r. ⌜ Says (Heard q g → (g ≡ f → ⊥) → Apart (Heard q) (startOf q) (sizeOf q) f g) r ⌝ }
 {
     if g == f {
         return true;
@@ -235,8 +235,8 @@ fn apart(q: Question, f: usize, g: usize) -> bool
 }
 
 fn apart_from(q: Question, f: usize) -> bool
-    requires { ⌜ (f < 32) × (placeOf q f + sizeOf q f < 2 ^ 64) ⌝ }
-    ensures { λ r. ⌜ Says ((g : _) → Heard q g → (g ≡ f → ⊥) → Apart (Heard q) (placeOf q) (sizeOf q) f g) r ⌝ }
+    requires { ⌜ (f < 32) × (startOf q f + sizeOf q f < 2 ^ 64) ⌝ }
+    ensures { λ r. ⌜ Says ((g : _) → Heard q g → (g ≡ f → ⊥) → Apart (Heard q) (startOf q) (sizeOf q) f g) r ⌝ }
 {
     let mut g = 0;
     while g < 32 {
@@ -251,7 +251,7 @@ fn apart_from(q: Question, f: usize) -> bool
 // Whether g is heard and placed at `at`.
 fn begins(q: Question, g: usize, at: usize) -> bool
     requires { ⌜ g < 32 ⌝ }
-    ensures { λ r. ⌜ Says (Heard q g × (placeOf q g ≡ at)) r ⌝ }
+    ensures { λ r. ⌜ Says (Heard q g × (startOf q g ≡ at)) r ⌝ }
 {
     if !is_heard(q, g) {
         return false;
@@ -261,7 +261,7 @@ fn begins(q: Question, g: usize, at: usize) -> bool
 
 // Whether some heard fragment is placed at `at`.
 fn starts(q: Question, at: usize) -> bool
-    ensures { λ r. ⌜ Says (Starts (Heard q) (placeOf q) (sizeOf q) at) r ⌝ }
+    ensures { λ r. ⌜ Says (Starts (Heard q) (startOf q) (sizeOf q) at) r ⌝ }
 {
     let mut g = 0;
     while g < 32 {
@@ -275,8 +275,8 @@ fn starts(q: Question, at: usize) -> bool
 
 // Whether f's bytes are the last, or others start where they end.
 fn followed(q: Question, used: usize, f: usize) -> bool
-    requires { ⌜ (f < 32) × (placeOf q f + sizeOf q f < 2 ^ 64) ⌝ }
-    ensures { λ r. ⌜ Says ((placeOf q f + sizeOf q f ≡ used) ⊎ Starts (Heard q) (placeOf q) (sizeOf q) (placeOf q f + sizeOf q f)) r ⌝ }
+    requires { ⌜ (f < 32) × (startOf q f + sizeOf q f < 2 ^ 64) ⌝ }
+    ensures { λ r. ⌜ Says ((startOf q f + sizeOf q f ≡ used) ⊎ Starts (Heard q) (startOf q) (sizeOf q) (startOf q f + sizeOf q f)) r ⌝ }
 {
     let place = place_of(q, f);
     let size = size_of(q, f);

@@ -1,5 +1,5 @@
--- `desk::solving::all_heard` meets its contract.
-use Prim.Native.Nat.{ℕ, _-_, _≤_, _<_}
+-- `solving::all_heard` meets its contract.
+use Prim.Native.Nat.{ℕ, _-_, _<_}
 use native.Mathlib.Omega.{arith}
 use Rattle.meaning.specs.Says.{aye, nay}
 use Rattle.reply.proofs.Tests.{says-yes, says-no}
@@ -9,13 +9,13 @@ use Rattle.solving.proofs.all_heard.Statement.{statement}
 use Rattle.solving.proofs.all_heard.Tie as tie
 
 abbrev Inv-loop : tie.InvT-loop
-Inv-loop q parts f₀ f = (f ≤ parts) × ((j : ℕ) → j < f → Heard q j)
+Inv-loop q parts f₀ f = (j : ℕ) → j < f → Heard q j
 
 abbrev μ-loop : tie.MeasureT-loop
 μ-loop q parts f₀ f = parts - f
 
 loop-holds : tie.Need-loop-holds Inv-loop μ-loop
-loop-holds c = (omega arith, λ j h. absurd (omega arith))
+loop-holds c = λ j h. absurd (omega arith)
 
 is-heard-requires : tie.Need-is-heard-requires Inv-loop μ-loop
 is-heard-requires c κs = omega arith
@@ -30,10 +30,10 @@ loop-less : tie.Need-loop-less Inv-loop μ-loop
 loop-less c = omega arith
 
 loop-again : tie.Need-loop-again Inv-loop μ-loop
-loop-again c = (omega arith, λ j h. up-to-suc (λ j. Heard (c .before .before .before .before .args .q) j) (c .before .before .before .loop .f) (c .before .before .before .loop .inv .1) (says-yes (c .before .is-heard .ensures) (c .if1 .left)) j (omega arith))
+loop-again c = λ j h. up-to-suc (λ j. Heard (c .before .before .before .before .args .q) j) (c .before .before .before .loop .f) (c .before .before .before .loop .inv) (says-yes (c .before .is-heard .ensures) (c .if1 .left)) j (omega arith)
 
 returns-2 : tie.Need-returns-2 Inv-loop μ-loop
-returns-2 c = aye (λ j h. c .before .loop .inv .1 j (omega (arith, c .loop-test .left)))
+returns-2 c = aye (λ j h. c .before .loop .inv j (omega (arith, c .loop-test .left)))
 
 pub all-heard-spec : {M : Type 1} → statement M
 all-heard-spec =

@@ -1,4 +1,4 @@
--- `desk::solving::answer` meets its contract.
+-- `solving::answer` meets its contract.
 use Prim.Native.Nat.{_-_, _≤_}
 use mathlib.Core.Path.{refl}
 use native.Mathlib.Omega.{arith}

@@ -1,4 +1,4 @@
--- `desk::solving::solve` meets its contract.
+-- `solving::solve` meets its contract.
 use mathlib.Core.Path.{_∙_}
 use native.Mathlib.Omega.{arith}
 use Rattle.solving.proofs.Replies.{small, row-here, row-lower}

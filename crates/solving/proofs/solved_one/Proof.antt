@@ -1,4 +1,4 @@
--- `desk::solving::solved_one` meets its contract.
+-- `solving::solved_one` meets its contract.
 use native.Mathlib.Omega.{arith}
 use Rattle.solving.proofs.Answers.{part-end, sound-here, put-agree}
 use borrow.Author.Needs.{needs}

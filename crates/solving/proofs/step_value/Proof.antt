@@ -1,4 +1,4 @@
--- `desk::solving::step_value` meets its contract.
+-- `solving::step_value` meets its contract.
 use mathlib.Core.Path.{sym, _∙_}
 use native.Mathlib.Omega.{arith}
 use Rattle.reply.specs.inner.Decode.{refFrom}

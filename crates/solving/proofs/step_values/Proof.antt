@@ -1,4 +1,4 @@
--- `desk::solving::step_values` meets its contract.
+-- `solving::step_values` meets its contract.
 use Prim.Native.Nat.{_+_, _-_, _*_, _≤_}
 use mathlib.Core.Path.{_≡_, refl, sym, ap, _∙_}
 use mathlib.Core.List.{[]}

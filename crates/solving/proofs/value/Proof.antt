@@ -1,4 +1,4 @@
--- `desk::solving::value` meets its contract.
+-- `solving::value` meets its contract.
 use mathlib.Core.Path.{sym, _∙_}
 use native.Mathlib.Omega.{arith}
 use Rattle.solving.specs.inner.Values.{variableOf}

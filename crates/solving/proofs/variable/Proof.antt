@@ -1,4 +1,4 @@
--- `desk::solving::variable` meets its contract.
+-- `solving::variable` meets its contract.
 use native.Mathlib.Omega.{arith}
 use Rattle.solving.proofs.Replies.{small, place, rest, var-V, var-D}
 use borrow.Author.Needs.{needs}

@@ -1,4 +1,4 @@
--- `desk::solving::with_row` meets its contract.
+-- `solving::with_row` meets its contract.
 use Prim.Native.Nat.{ℕ, _+_, _-_, _*_, _≤_, _<_}
 use mathlib.Core.Path.{_≡_, refl, _∙_}
 use mathlib.Core.Logic.{_⊎_, ⊎-elim}

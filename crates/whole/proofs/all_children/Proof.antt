@@ -1,4 +1,4 @@
--- `desk::whole::all_children` meets its contract.
+-- `whole::all_children` meets its contract.
 use Prim.Native.Nat.{ℕ, _-_, _≤_, _<_}
 use mathlib.Core.Path.{_≡_, sym, _∙_}
 use native.Mathlib.Omega.{arith}

@@ -1,4 +1,4 @@
--- `desk::whole::apart` meets its contract.
+-- `whole::apart` meets its contract.
 use Prim.Native.Nat.{_-_}
 use mathlib.Core.Logic.{inl, inr, ⊎-elim}
 use native.Mathlib.Omega.{arith}

@@ -1,4 +1,4 @@
--- `desk::whole::begins` meets its contract.
+-- `whole::begins` meets its contract.
 use mathlib.Core.Path.{sym, _∙_}
 use Rattle.meaning.specs.Says.{nay}
 use Rattle.meaning.proofs.Says.{says-iff}

@@ -1,4 +1,4 @@
--- `desk::whole::child_met` meets its contract.
+-- `whole::child_met` meets its contract.
 use Rattle.meaning.specs.Says.{aye}
 use Rattle.meaning.proofs.Says.{says-iff}
 use borrow.Author.Needs.{needs}

@@ -1,11 +1,11 @@
--- `desk::whole::followed` meets its contract.
+-- `whole::followed` meets its contract.
 use Prim.Native.Nat.{_+_}
 use mathlib.Core.Path.{_≡_, _∙_}
 use mathlib.Core.Logic.{inl, inr, ⊎-elim}
 use native.Mathlib.Omega.{arith}
 use Rattle.meaning.specs.Says.{aye}
 use Rattle.meaning.proofs.Says.{says-iff}
-use Rattle.whole.specs.Whole.{placeOf, sizeOf}
+use Rattle.whole.specs.Whole.{startOf, sizeOf}
 use borrow.Author.Needs.{needs}
 use Rattle.whole.proofs.followed.Statement.{statement}
 use Rattle.whole.proofs.followed.Tie as tie
@@ -27,7 +27,7 @@ starts-requires c κs = search needs
 
 returns-2 : tie.Need-returns-2
 returns-2 c =
-    let e : c .before .before .before .place-of .result + c .before .before .size-of .result ≡ placeOf (c .before .before .before .before .args .q) (c .before .before .before .before .args .f) + sizeOf (c .before .before .before .before .args .q) (c .before .before .before .before .args .f) = omega (arith, c .before .before .before .place-of .ensures, c .before .before .size-of .ensures) in
+    let e : c .before .before .before .place-of .result + c .before .before .size-of .result ≡ startOf (c .before .before .before .before .args .q) (c .before .before .before .before .args .f) + sizeOf (c .before .before .before .before .args .q) (c .before .before .before .before .args .f) = omega (arith, c .before .before .before .place-of .ensures, c .before .before .size-of .ensures) in
     says-iff (λ s. inr s) (λ k. ⊎-elim (λ z. absurd (c .before .if1 .left (e ∙ z))) (λ s. s) k) (rw e at (c .starts .ensures))
 
 pub followed-spec : {M : Type 1} → statement M

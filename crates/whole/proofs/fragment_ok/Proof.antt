@@ -1,4 +1,4 @@
--- `desk::whole::fragment_ok` meets its contract.
+-- `whole::fragment_ok` meets its contract.
 use native.Mathlib.Omega.{arith}
 use Rattle.meaning.specs.Says.{aye, nay}
 use Rattle.meaning.proofs.Says.{says-iff}

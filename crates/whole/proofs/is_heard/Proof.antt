@@ -1,4 +1,4 @@
--- `desk::whole::is_heard` meets its contract.
+-- `whole::is_heard` meets its contract.
 use Rattle.meaning.proofs.Says.{says-iff}
 use Rattle.reply.proofs.Tests.{says-ne}
 use borrow.Author.Needs.{needs}

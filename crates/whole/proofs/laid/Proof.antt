@@ -1,4 +1,4 @@
--- `desk::whole::laid` meets its contract.
+-- `whole::laid` meets its contract.
 use Prim.Native.Nat.{ℕ, _-_, _≤_, _<_}
 use mathlib.Core.Logic.{inl, inr}
 use native.Mathlib.Omega.{arith}

@@ -1,4 +1,4 @@
--- `desk::whole::layout_ok` meets its contract.
+-- `whole::layout_ok` meets its contract.
 use Prim.Native.Nat.{ℕ, _-_, _≤_, _<_}
 use mathlib.Core.Path.{_≡_, refl, _∙_}
 use native.Mathlib.Omega.{arith}

@@ -1,4 +1,4 @@
--- `desk::whole::none_heard` meets its contract.
+-- `whole::none_heard` meets its contract.
 use Prim.Native.Nat.{ℕ, _-_, _≤_, _<_}
 use native.Mathlib.Omega.{arith}
 use Rattle.meaning.specs.Says.{aye, nay}

@@ -1,6 +1,6 @@
--- `desk::whole::only_children` meets its contract.
+-- `whole::only_children` meets its contract.
 use Prim.Native.Nat.{ℕ, _-_, _≤_, _<_}
-use mathlib.Core.Path.{_≡_, sym, ap, _∙_}
+use mathlib.Core.Path.{_≡_, ap, _∙_}
 use native.Mathlib.Omega.{arith}
 use lib.ListN.{length}
 use Rattle.meaning.specs.Says.{aye, nay}
@@ -34,7 +34,10 @@ wide-requires : tie.Need-wide-requires Inv-loop μ-loop
 wide-requires c κs = search needs
 
 returns-2 : tie.Need-returns-2 Inv-loop μ-loop
-returns-2 c = nay (λ h. c .if2 .taken (c .before .wide .ensures ∙ same-at (c .before .before .before .before .before .before .before .before .before .args .layout .now) (c .before .before .before .before .take-in .result) 0 255 (omega arith) ∙ ap (λ g. parentOf (c .before .before .before .before .before .before .before .before .before .args .layout .now) g) (c .before .before .before .before .take-in .ensures .in-is) ∙ h (c .before .before .before .before .before .before .loop .i) (c .before .before .before .before .before .loop-test .taken) .1))
+returns-2 c =
+    let l = c .before .before .before .before .before .before .before .before .before .args .layout .now in
+    let e = same-at l (c .before .before .before .before .take-in .result) 0 255 (omega arith) ∙ ap (λ g. parentOf l g) (c .before .before .before .before .take-in .ensures .in-is) in
+    nay (λ h. omega (arith, c .if2 .taken, c .before .wide .ensures, e, h (c .before .before .before .before .before .before .loop .i) (c .before .before .before .before .before .loop-test .taken) .1))
 
 add-i : tie.Need-add-i Inv-loop μ-loop
 add-i c = omega arith
@@ -43,11 +46,15 @@ loop-less : tie.Need-loop-less Inv-loop μ-loop
 loop-less c = omega arith
 
 loop-again : tie.Need-loop-again Inv-loop μ-loop
-loop-again c = (
-  omega arith,
-  λ j h. up-to-suc (λ j. (inAt (c .before .before .before .before .before .before .before .before .before .args .s .now) j < length (c .before .before .before .before .before .before .before .before .before .args .layout .now)) × (parentOf (c .before .before .before .before .before .before .before .before .before .args .layout .now) (inAt (c .before .before .before .before .before .before .before .before .before .args .s .now) j) ≡ c .before .before .before .before .before .before .before .before .before .args .fragment)) (c .before .before .before .before .before .before .loop .i) (c .before .before .before .before .before .before .loop .inv .1)
-      (omega (arith, c .before .before .before .if1 .left, c .before .before .before .before .take-in .ensures .in-is), ap (λ g. parentOf (c .before .before .before .before .before .before .before .before .before .args .layout .now) g) (sym (c .before .before .before .before .take-in .ensures .in-is)) ∙ same-at (c .before .before .before .before .before .before .before .before .before .args .layout .now) (c .before .before .before .before .take-in .result) 255 0 (omega arith) ∙ sym (c .before .wide .ensures) ∙ c .if2 .left) j (omega arith),
-)
+loop-again c =
+    let s = c .before .before .before .before .before .before .before .before .before .args .s .now in
+    let l = c .before .before .before .before .before .before .before .before .before .args .layout .now in
+    let g = c .before .before .before .before .take-in .ensures .in-is in
+    let e = same-at l (c .before .before .before .before .take-in .result) 0 255 (omega arith) ∙ ap (λ g. parentOf l g) g in (
+      omega arith,
+      λ j h. up-to-suc (λ j. (inAt s j < length l) × (parentOf l (inAt s j) ≡ c .before .before .before .before .before .before .before .before .before .args .fragment)) (c .before .before .before .before .before .before .loop .i) (c .before .before .before .before .before .before .loop .inv .1)
+          (omega (arith, c .before .before .before .if1 .left, g), omega (arith, e, c .before .wide .ensures, c .if2 .left)) j (omega arith),
+    )
 
 returns-3 : tie.Need-returns-3 Inv-loop μ-loop
 returns-3 c = aye (λ j h. c .before .loop .inv .1 j (omega (arith, c .loop-test .left)))

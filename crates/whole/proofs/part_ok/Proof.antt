@@ -1,4 +1,4 @@
--- `desk::whole::part_ok` meets its contract.
+-- `whole::part_ok` meets its contract.
 use native.Mathlib.Omega.{arith}
 use Rattle.meaning.specs.Says.{nay}
 use Rattle.reply.proofs.Tests.{says-eq}

@@ -1,4 +1,4 @@
--- `desk::whole::rules` meets its contract.
+-- `whole::rules` meets its contract.
 use native.Mathlib.Omega.{arith}
 use Rattle.meaning.specs.Says.{nay}
 use Rattle.whole.proofs.Pieces.{front-is, rules-says}

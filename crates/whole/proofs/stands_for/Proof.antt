@@ -1,4 +1,4 @@
--- `desk::whole::stands_for` meets its contract.
+-- `whole::stands_for` meets its contract.
 use Prim.Native.Nat.{ℕ, _-_, _≤_, _<_}
 use mathlib.Core.Path.{_≡_, sym, _∙_}
 use native.Mathlib.Omega.{arith}

@@ -1,16 +1,16 @@
--- `desk::whole::starts` meets its contract.
+-- `whole::starts` meets its contract.
 use Prim.Native.Nat.{ℕ, _-_, _≤_, _<_}
 use mathlib.Core.Path.{_≡_}
 use native.Mathlib.Omega.{arith}
 use Rattle.meaning.specs.Says.{aye, nay}
 use Rattle.meaning.proofs.Says.{says-true, says-false}
 use Rattle.reply.proofs.Lists.{up-to-suc}
-use Rattle.whole.specs.Whole.{Heard, placeOf}
+use Rattle.whole.specs.Whole.{Heard, startOf}
 use Rattle.whole.proofs.starts.Statement.{statement}
 use Rattle.whole.proofs.starts.Tie as tie
 
 abbrev Inv-loop : tie.InvT-loop
-Inv-loop q at g₀ g = (g ≤ 32) × ((j : ℕ) → j < g → Heard q j × (placeOf q j ≡ at) → ⊥)
+Inv-loop q at g₀ g = (g ≤ 32) × ((j : ℕ) → j < g → Heard q j × (startOf q j ≡ at) → ⊥)
 
 abbrev μ-loop : tie.MeasureT-loop
 μ-loop q at g₀ g = 32 - g
@@ -32,7 +32,7 @@ loop-less : tie.Need-loop-less Inv-loop μ-loop
 loop-less c = omega arith
 
 loop-again : tie.Need-loop-again Inv-loop μ-loop
-loop-again c = (omega arith, λ j h. up-to-suc (λ j. Heard (c .before .before .before .before .args .q) j × (placeOf (c .before .before .before .before .args .q) j ≡ c .before .before .before .before .args .at) → ⊥) (c .before .before .before .loop .g) (c .before .before .before .loop .inv .1) (says-false (c .before .begins .ensures) (c .if1 .left)) j (omega arith))
+loop-again c = (omega arith, λ j h. up-to-suc (λ j. Heard (c .before .before .before .before .args .q) j × (startOf (c .before .before .before .before .args .q) j ≡ c .before .before .before .before .args .at) → ⊥) (c .before .before .before .loop .g) (c .before .before .before .loop .inv .1) (says-false (c .before .begins .ensures) (c .if1 .left)) j (omega arith))
 
 returns-2 : tie.Need-returns-2 Inv-loop μ-loop
 returns-2 c = nay (λ s. c .before .loop .inv .1 (s .part) (omega (arith, s .is .0, c .loop-test .left)) (s .is, s .here))

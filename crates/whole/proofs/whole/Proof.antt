@@ -1,4 +1,4 @@
--- `desk::whole::whole` meets its contract.
+-- `whole::whole` meets its contract.
 use Rattle.meaning.specs.Says.{nay}
 use Rattle.reply.proofs.Tests.{says-yes, says-no}
 use Rattle.whole.proofs.Pieces.{whole-fresh, not-fresh, whole-open, whole-rules}

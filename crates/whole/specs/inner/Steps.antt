@@ -2,11 +2,10 @@
 use Prim.Native.Nat.{ℕ, _+_, _≤_, _<_}
 use mathlib.Core.Path.{_≡_}
 use mathlib.Core.Logic.{_⊎_}
-use lib.ListN.{length}
 use Rattle.meaning.specs.Bytes.{Bytes}
 use Rattle.reply.specs.inner.Decode.{inAt}
 use Rattle.meaning.specs.Refused.{Granted}
-use Rattle.whole.specs.Whole.{Judging, Heard, placeOf, sizeOf, Own}
+use Rattle.whole.specs.Whole.{Judging, Heard, startOf, sizeOf, Own}
 use Rattle.whole.specs.declared.Question.{Question}
 
 -- g is among the first k stand-ins
@@ -30,16 +29,10 @@ module _ (H : ℕ → Type 0) (place size : ℕ → ℕ) where
   Apart f g = (place f + size f ≤ place g) ⊎ (place g + size g ≤ place f)
 
 pub record PartOk (q : Question) (used : ℕ) (store : Bytes) (f : ℕ) : Type 0 where
-  pub inside : placeOf q f + sizeOf q f ≤ used
+  pub inside : startOf q f + sizeOf q f ≤ used
   pub reply : Own q store f
 
 pub record FragmentOk (q : Question) (used : ℕ) (store : Bytes) (f : ℕ) : Type 0 where
   pub part : PartOk q used store f
-  pub apart : (g : ℕ) → Heard q g → (g ≡ f → ⊥) → Apart (Heard q) (placeOf q) (sizeOf q) f g
-  pub follows : (placeOf q f + sizeOf q f ≡ used) ⊎ Starts (Heard q) (placeOf q) (sizeOf q) (placeOf q f + sizeOf q f)
-
--- an array's length, which a record's type does not tell
-pub record Sizes (q : Question) : Type 0 where
-  pub heard-all : length (q .heard) ≡ 32
-  pub place-all : length (q .place) ≡ 32
-  pub size-all : length (q .size) ≡ 32
+  pub apart : (g : ℕ) → Heard q g → (g ≡ f → ⊥) → Apart (Heard q) (startOf q) (sizeOf q) f g
+  pub follows : (startOf q f + sizeOf q f ≡ used) ⊎ Starts (Heard q) (startOf q) (sizeOf q) (startOf q f + sizeOf q f)
