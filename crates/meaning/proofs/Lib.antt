@@ -16,4 +16,4 @@ pub mod Register
 pub mod Solve
 pub mod Lawful
 pub mod Steps
-pub mod Bound
+pub mod StepBound

@@ -13,7 +13,6 @@ use Rattle.meaning.specs.Bytes.{Bytes}
 use Rattle.meaning.specs.Entry.{Entry, Points, Earlier}
 use Rattle.meaning.specs.Formula.{Ref, Step, constant, negated, formula}
 use Rattle.meaning.specs.Run.{upd, literal, Vectors, valueOf, visit, push}
-use Rattle.meaning.proofs.Says as Lists
 use Rattle.meaning.proofs.Entry.{length-snoc}
 use Rattle.meaning.proofs.Formula.{join, joins}
 use Rattle.meaning.proofs.Numbers.{upd-same, upd-other}

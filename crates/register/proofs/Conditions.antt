@@ -25,7 +25,7 @@ use Rattle.reply.specs.inner.Decode.{read}
 use Rattle.reply.proofs.Round.{fits-12, write-read}
 use Rattle.question.proofs.Listed.{listed-length, keeps-earlier}
 use Rattle.meaning.specs.Bound.{stepBound}
-use Rattle.meaning.proofs.Bound.{bounded}
+use Rattle.meaning.proofs.StepBound.{bounded}
 use Rattle.meaning.specs.Refused.{Unless, Granted}
 use Rattle.whole.specs.Whole.{Whole, partOf}
 use Rattle.desk.specs.Changed.{openedAs}
