@@ -12,7 +12,7 @@ use Rattle.meaning.specs.Bytes.{Bytes, word}
 use Rattle.meaning.specs.Entry.{Entry}
 use Rattle.meaning.specs.Fragment.{Fragment, rowCount, rowsOf}
 use Rattle.meaning.specs.Reply.{tabulated, laidDown}
-use Rattle.meaning.proofs.Bound.{no-steps}
+use Rattle.meaning.proofs.StepBound.{no-steps}
 use Rattle.question.specs.declared.List as L
 use Rattle.question.specs.Listed.{Kind, kindOf, EntryRule, Keeps, entryOf, listed}
 use Rattle.reply.specs.Write.{write}

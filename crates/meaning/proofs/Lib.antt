@@ -15,4 +15,5 @@ pub mod Reply
 pub mod Register
 pub mod Solve
 pub mod Lawful
-pub mod Bound
+pub mod Steps
+pub mod StepBound

@@ -23,7 +23,7 @@ use Rattle.reply.specs.Read.{Is}
 use Rattle.reply.proofs.Round.{size-is}
 use Rattle.depot.specs.Answer.{call, laid, bytes, Answered}
 use Rattle.question.proofs.Listed.{keeps-earlier}
-use Rattle.meaning.proofs.Bound.{no-steps}
+use Rattle.meaning.proofs.StepBound.{no-steps}
 use Rattle.depot.proofs.Promised.{never-eight, laid-well-formed}
 use Rattle.meaning.specs.Refused.{Unless, Granted}
 use Rattle.desk.specs.Calls.{Opens, Accepts, Asks}

@@ -14,7 +14,7 @@ use Rattle.meaning.specs.Says.{Says}
 use Rattle.meaning.specs.Entry.{Entry}
 use Rattle.meaning.specs.Fragment.{rowCount}
 use Rattle.meaning.specs.Bound.{Open, stepBound}
-use Rattle.meaning.proofs.Bound.{step-bound}
+use Rattle.meaning.proofs.StepBound.{step-bound}
 use Rattle.question.specs.Listed.{listed}
 use Rattle.question.proofs.Listed.{listed-length, keeps-earlier}
 use Rattle.reply.proofs.Round.{one-reply}

@@ -27,7 +27,7 @@ use Rattle.reader.specs.Packed.{placedEntries, packed}
 use Rattle.reader.specs.Read.{Written, ReadRefusal, Read}
 use Rattle.reader.proofs.Outcome.{read-taken, taken-list, read-keeps, read-listed}
 use Rattle.question.proofs.Listed.{listed-length, keeps-earlier}
-use Rattle.meaning.proofs.Bound.{bounded, no-steps}
+use Rattle.meaning.proofs.StepBound.{bounded, no-steps}
 use Rattle.register.specs.Round.{Round, callOf}
 use Rattle.register.proofs.Laid.{replyOf, Asked, all-replied}
 use Rattle.register.specs.Trial.{fragment, register, round, Case, Table}

@@ -1,3 +1,4 @@
+use native.Mathlib.Omega.{arith}
 use Rattle.fragment.proofs.Rules.{first-not, first-is, parent-late, parent-stands, row-real, row-stands}
 use borrow.Author.Needs.{needs}
 use Rattle.fragment.proofs.row_ok.Statement.{statement}
@@ -25,7 +26,7 @@ returns-2 : tie.Need-returns-2
 returns-2 c = first-is _ _ _ _ (c .before .before .before .wide .ensures .0) (c .before .before .if1 .taken) (c .before .if2 .left) (c .real-ok .ensures)
 
 returns-3 : tie.Need-returns-3
-returns-3 c = parent-late _ _ _ _ (c .before .before .wide .ensures .0) (c .before .if1 .left) (c .if3 .taken)
+returns-3 c = parent-late _ _ _ _ (c .before .before .wide .ensures .0) (c .before .if1 .left) (omega arith)
 
 mul-above : tie.Need-mul-above
 mul-above c = search needs
@@ -58,13 +59,13 @@ real-ok-requires-2 : tie.Need-real-ok-requires-2
 real-ok-requires-2 c κs = search needs
 
 returns-5 : tie.Need-returns-5
-returns-5 c = row-real _ _ _ _ (c .before .before .before .before .before .before .before .wide .ensures .0) (c .before .before .before .before .before .before .if1 .left) (c .before .before .before .before .before .if3 .left) (c .before .before .before .if4 .left) (c .before .if5 .taken) (c .real-ok2 .ensures)
+returns-5 c = row-real _ _ _ _ (c .before .before .before .before .before .before .before .wide .ensures .0) (c .before .before .before .before .before .before .if1 .left) (omega arith) (c .before .before .before .if4 .left) (c .before .if5 .taken) (c .real-ok2 .ensures)
 
 stand-in-ok-requires : tie.Need-stand-in-ok-requires
 stand-in-ok-requires c κs = search needs
 
 returns-6 : tie.Need-returns-6
-returns-6 c = row-stands _ _ _ _ (c .before .before .before .before .before .before .before .wide .ensures .0) (c .before .before .before .before .before .before .if1 .left) (c .before .before .before .before .before .if3 .left) (c .before .before .before .if4 .left) (c .before .if5 .left) (c .stand-in-ok .ensures _)
+returns-6 c = row-stands _ _ _ _ (c .before .before .before .before .before .before .before .wide .ensures .0) (c .before .before .before .before .before .before .if1 .left) (omega arith) (c .before .before .before .if4 .left) (c .before .if5 .left) (c .stand-in-ok .ensures _)
 
 pub row-ok-spec : {M : Type 1} → statement M
 row-ok-spec =
