@@ -3,7 +3,7 @@ use Prim.Native.Nat.{ℕ, _+_, _-_, _≤_, _<_}
 use mathlib.Core.Path.{_≡_, refl, sym, ap, _∙_, subst}
 use mathlib.Core.Bool.{Bool}
 use mathlib.Core.List.{List, List·Memᴰ}
-use mathlib.Core.Logic.{_⊎_, ⊎-elim, _≢_}
+use mathlib.Core.Logic.{_≢_}
 use native.Mathlib.Omega.{arith}
 use native.Mathlib.Nat.{min-le-left}
 use native.Mathlib.Decide.{decLt, ℕ-discrete}
@@ -20,10 +20,10 @@ use Rattle.reply.specs.declared.Head.{Head}
 use Rattle.reply.proofs.Round.{Fields, fields-of, is-the, checked-of}
 use Rattle.meaning.specs.Refused.{refused, passed, granted}
 use Rattle.whole.specs.Whole.{layoutOf, Rules, Shaped, Heard, startOf, sizeOf, partOf, Own, Laid, Opened, Whole, closed, opened}
-use Rattle.whole.specs.inner.Steps.{StandsFor, Judged, Starts, PartOk, FragmentOk}
+use Rattle.whole.specs.inner.Steps.{StandsFor, Judged, Tested}
 use Rattle.whole.specs.declared.Question.{Question}
 use Rattle.whole.specs.declared.Record.{Record}
-use Rattle.whole.proofs.Tiles.{Tested, tested-tiled, tiled-tested}
+use Rattle.whole.proofs.Tiles.{tested-tiled, tiled-tested}
 use Rattle.whole.proofs.Children.{mem-place, place-mem, child-has, has-child}
 
 -- ---- a reply
@@ -134,16 +134,16 @@ heard-or-not q f = go (decLt f 32) (ℕ-discrete (getD (q .heard) f 0) 0)
     go (no l) z = no (λ h. l (h .0))
 
 -- the reply that they are
-pub record OwnReply (q : Question) (store : Bytes) (f : ℕ) : Type 0 where
+pub record OwnReply (q : Question) (s : Bytes) (f : ℕ) : Type 0 where
   pub reply : Reply
-  pub free : Free q (partOf q store f) reply
+  pub free : Free q s reply
   pub own : reply .fragment ≡ f
 
-pub own-reply : {q : Question} {store : Bytes} {f : ℕ} → Own q store f → OwnReply q store f
+pub own-reply : {q : Question} {s : Bytes} {f : ℕ} → Own q s f → OwnReply q s f
 own-reply o = let t = judged-free (o .judged) refl in record { reply = t .0; free = t .1; own = o .own (t .0) (t .1 .is) }
 
-pub reply-own : {q : Question} {store : Bytes} {f : ℕ} → OwnReply q store f → Own q store f
-reply-own {q} {store} {f} o = record { judged = free-judged (o .free); own = λ r i. ap (λ (z : Reply). z .fragment) (one-of (partOf q store f) r (o .reply) i (o .free .is)) ∙ o .own }
+pub reply-own : {q : Question} {s : Bytes} {f : ℕ} → OwnReply q s f → Own q s f
+reply-own {q} {s} o = record { judged = free-judged (o .free); own = λ r i. ap (λ (z : Reply). z .fragment) (one-of s r (o .reply) i (o .free .is)) ∙ o .own }
 
 pub part-is : (q : Question) (store : Bytes) (f p n : ℕ) → p ≡ startOf q f → n ≡ sizeOf q f → take (p + n - p) (drop p store) ≡ partOf q store f
 part-is q store f p n ep en = let e : p + n - p ≡ n = omega arith in rw (e, ep, en) refl
@@ -151,22 +151,14 @@ part-is q store f p n ep en = let e : p + n - p ≡ n = omega arith in rw (e, ep
 pub long-enough : {q : Question} {s : Bytes} {c : ℕ} → Judged q s c → c ≡ 0 → 8 ≤ length s
 long-enough {q} {s} j e = let t = judged-free j e in omega (arith, checked-of 12 s (t .0) (t .1 .is) .head)
 
-part-good : (q : Question) (used : ℕ) (store : Bytes) (f c : ℕ) (h : Head) {b : Bool} → Judged q (partOf q store f) c → c ≡ 0 → HeadIs (partOf q store f) h
-    → startOf q f + sizeOf q f ≤ used → Says (h .fragment ≡ f) b → Says (PartOk q used store f) b
-part-good q used store f c h j e H i =
-    let s = partOf q store f in
+pub part-says : (q : Question) (s : Bytes) (f c : ℕ) (h : Head) {b : Bool} → Judged q s c → c ≡ 0 → HeadIs s h → Says (h .fragment ≡ f) b → Says (Own q s f) b
+part-says q s f c h j e H =
     let t = judged-free j e in
     let x : h .fragment ≡ t .0 .fragment = fragment-is q s (t .0) (t .1 .is) h H in
-    says-iff
-    (λ y. record { inside = i; reply = reply-own (record { reply = t .0; free = t .1; own = sym x ∙ y }) })
-    (λ k. x ∙ k .reply .own (t .0) (t .1 .is))
+    says-iff (λ y. reply-own (record { reply = t .0; free = t .1; own = sym x ∙ y })) (λ k. x ∙ k .own (t .0) (t .1 .is))
 
-pub part-says : (q : Question) (used : ℕ) (store : Bytes) (f c : ℕ) (h : Head) (s : Bytes) {b : Bool} → s ≡ partOf q store f → Judged q s c → c ≡ 0 → HeadIs s h
-    → startOf q f + sizeOf q f ≤ used → Says (h .fragment ≡ f) b → Says (PartOk q used store f) b
-part-says q used store f c h s x j e H i y = part-good q used store f c h (subst (λ t. Judged q t c) x j) e (subst (λ t. HeadIs t h) x H) i y
-
-pub part-not : (q : Question) (used : ℕ) (store : Bytes) (f c : ℕ) (s : Bytes) → s ≡ partOf q store f → Judged q s c → c ≢ 0 → PartOk q used store f → ⊥
-part-not q used store f c s x j n k = let w = own-reply (k .reply) in judged-not j n (w .reply) (subst (λ t. Free q t (w .reply)) (sym x) (w .free))
+pub part-not : (q : Question) (s : Bytes) (f c : ℕ) → Judged q s c → c ≢ 0 → Own q s f → ⊥
+part-not q s f c j n k = let w = own-reply k in judged-not j n (w .reply) (w .free)
 
 -- ---- the layout
 pub front-is : (n : ℕ) (l m : List ℕ) → l ≡ m → take (n - 0) (drop 0 l) ≡ take n m
@@ -177,31 +169,21 @@ rules-says q L e few one most k =
     says-iff (λ l. record { few-parts = few; keeps = record { layout-keeps = subst Layout e l; some-entry = one; few-entries = most } }) (λ r. subst Layout (sym e) (r .keeps .layout-keeps)) k
 
 -- ---- the whole store
-some-size : (q : Question) (store : Bytes) (f : ℕ) → Own q store f → 0 < sizeOf q f
-some-size q store f o =
-    let w = own-reply o in
-    let h = checked-of 12 (partOf q store f) (w .reply) (w .free .is) in
-    omega (arith, h .head, length-take (sizeOf q f) (drop (startOf q f) store), min-le-left (sizeOf q f) (length (drop (startOf q f) store)))
-
 module _ (q : Question) (used : ℕ) (store : Bytes) where
-  laid-tested : Laid q used store → Tested (Heard q) (startOf q) (sizeOf q) used
-  laid-tested l = tiled-tested (Heard q) (startOf q) (sizeOf q) used (λ f h. some-size q store f (l .replies f h)) (l .tiled)
+  abbrev Owned : Type 0
+  Owned = (f : ℕ) → Heard q f → Own q (partOf q store f) f
 
-  pub laid-fragment : Laid q used store → (f : ℕ) → Heard q f → FragmentOk q used store f
-  laid-fragment l f h =
-      let t = laid-tested l in
-      record { part = record { inside = t .inside f h; reply = l .replies f h }; apart = λ g k n. t .pairs f g h k n; follows = t .follows f h }
+  some-size : Owned → (f : ℕ) → Heard q f → 0 < sizeOf q f
+  some-size o f h =
+      let w = own-reply (o f h) in
+      let k = checked-of 12 (partOf q store f) (w .reply) (w .free .is) in
+      omega (arith, k .head, length-take (sizeOf q f) (drop (startOf q f) store), min-le-left (sizeOf q f) (length (drop (startOf q f) store)))
 
-  pub laid-begins : Laid q used store → used ≢ 0 → Starts (Heard q) (startOf q) (sizeOf q) 0
-  laid-begins l n = ⊎-elim (λ e. absurd (n e)) (λ s. s) (laid-tested l .begins)
+  pub laid-tested : Laid q used store → Tested (Heard q) (startOf q) (sizeOf q) used
+  laid-tested l = tiled-tested (Heard q) (startOf q) (sizeOf q) used (some-size (l .replies)) (l .tiled)
 
-  pub laid-of : used ≤ length store → ((f : ℕ) → Heard q f → FragmentOk q used store f) → (used ≡ 0) ⊎ Starts (Heard q) (startOf q) (sizeOf q) 0 → Laid q used store
-  laid-of r k b = record {
-    fits = r;
-    replies = λ f h. k f h .part .reply;
-    tiled = tested-tiled (Heard q) (startOf q) (sizeOf q) used (λ f h. some-size q store f (k f h .part .reply))
-        (record { inside = λ f h. k f h .part .inside; pairs = λ f g h i n. k f h .apart g i n; follows = λ f h. k f h .follows; begins = b });
-  }
+  pub laid-says : {b : Bool} → used ≤ length store → Tested (Heard q) (startOf q) (sizeOf q) used → Says Owned b → Says (Laid q used store) b
+  laid-says r t o = says-iff (λ k. record { fits = r; replies = k; tiled = tested-tiled (Heard q) (startOf q) (sizeOf q) used (some-size k) t }) (λ l. l .replies) o
 
 -- ---- whole
 module _ (d : Record) (store : Bytes) where

@@ -5,21 +5,14 @@ use native.Mathlib.Decide.{decLt, decLe, ℕ-discrete}
 use mathlib.Core.Path.{_≡_, refl, sym, _∙_}
 use mathlib.Core.Logic.{_⊎_, inl, inr, ⊎-elim}
 use Rattle.whole.specs.Tiles.{In, Tiled}
-use Rattle.whole.specs.inner.Steps.{Starts, Apart}
+use Rattle.whole.specs.inner.Steps.{Starts, Apart, Tested}
 
 module _ (H : ℕ → Type 0) (place size : ℕ → ℕ) where
-  -- what is tested
-  pub record Tested (used : ℕ) : Type 0 where
-    pub inside : (f : ℕ) → H f → place f + size f ≤ used
-    pub pairs : (f g : ℕ) → H f → H g → (g ≡ f → ⊥) → Apart H place size f g
-    pub follows : (f : ℕ) → H f → (place f + size f ≡ used) ⊎ Starts H place size (place f + size f)
-    pub begins : (used ≡ 0) ⊎ Starts H place size 0
-
   module _ (used : ℕ) (some : (f : ℕ) → H f → 0 < size f) where
     at-start : (x : ℕ) → Starts H place size x → (f : ℕ) × In H place size f x
     at-start x s = let p = some (s .part) (s .is) in (s .part, record { is = s .is; from = omega (arith, s .here); to = omega (arith, s .here) })
 
-    cover : Tested used → (x : ℕ) → x < used → (f : ℕ) × In H place size f x
+    cover : Tested H place size used → (x : ℕ) → x < used → (f : ℕ) × In H place size f x
     cover t zero l = ⊎-elim (λ e. absurd (omega arith)) (at-start 0) (t .begins)
     cover t (suc x) l = go (cover t x (omega arith))
       where
@@ -27,20 +20,23 @@ module _ (H : ℕ → Type 0) (place size : ℕ → ℕ) where
         next f i (yes k) = (f, record { is = i .is; from = omega (arith, i .from); to = k })
         next f i (no k) =
             let e : place f + size f ≡ suc x = omega (arith, i .to) in
-            ⊎-elim (λ u. absurd (omega arith)) (λ s. at-start (suc x) (record { part = s .part; is = s .is; here = s .here ∙ e })) (t .follows f (i .is))
+            ⊎-elim (λ u. absurd (omega arith)) (λ s. at-start (suc x) (record { part = s .part; is = s .is; here = s .here ∙ e })) (t .each f (i .is) .follows)
 
         go : (f : ℕ) × In H place size f x → (f : ℕ) × In H place size f (suc x)
         go p = next (p .0) (p .1) (decLt (suc x) (place (p .0) + size (p .0)))
 
-    pub tested-tiled : Tested used → Tiled H place size used
-    tested-tiled t = record { inside = t .inside; covered = cover t; apart = λ f g x i j. same f g x i j (ℕ-discrete g f) }
+    pub tested-tiled : Tested H place size used → Tiled H place size used
+    tested-tiled t = record { inside = λ f h. t .each f h .inside; covered = cover t; apart = λ f g x i j. same f g x i j (ℕ-discrete g f) }
       where
         same : (f g x : ℕ) → In H place size f x → In H place size g x → Dec (g ≡ f) → f ≡ g
         same f g x i j (yes e) = sym e
-        same f g x i j (no e) = absurd (⊎-elim (λ p. omega (arith, p, i .to, j .from)) (λ p. omega (arith, p, i .from, j .to)) (t .pairs f g (i .is) (j .is) e))
+        same f g x i j (no e) = absurd (⊎-elim (λ p. omega (arith, p, i .to, j .from)) (λ p. omega (arith, p, i .from, j .to)) (t .each f (i .is) .apart g (j .is) e))
 
-    pub tiled-tested : Tiled H place size used → Tested used
-    tiled-tested t = record { inside = t .inside; pairs = λ f g h k n. pair f g h k n (decLe (place f + size f) (place g)) (decLe (place g + size g) (place f)); follows = λ f h. follow f h (decLt (place f + size f) used); begins = begin (decLt 0 used) }
+    pub tiled-tested : Tiled H place size used → Tested H place size used
+    tiled-tested t = record {
+      each = λ f h. record { inside = t .inside f h; apart = λ g k n. pair f g h k n (decLe (place f + size f) (place g)) (decLe (place g + size g) (place f)); follows = follow f h (decLt (place f + size f) used) };
+      begins = begin (decLt 0 used);
+    }
       where
         clash : (f g x : ℕ) → H f → H g → (g ≡ f → ⊥) → place f ≤ x → x < place f + size f → place g ≤ x → x < place g + size g → ⊥
         clash f g x h k n a b c d = n (sym (t .apart f g x (record { is = h; from = a; to = b }) (record { is = k; from = c; to = d })))

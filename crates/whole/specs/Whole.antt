@@ -55,15 +55,15 @@ sizeOf q f = getD (q .size) f 0
 abbrev pub partOf : Question → Bytes → ℕ → Bytes
 partOf q store f = take (sizeOf q f) (drop (startOf q f) store)
 
--- they are free of 13 to 15, and f's
-pub record Own (q : Question) (store : Bytes) (f : ℕ) : Type 0 where
-  pub judged : Judging q (partOf q store f) Granted 0
-  pub own : (r : Reply) → Is 12 (partOf q store f) r → r .fragment ≡ f
+-- the bytes s are free of 13 to 15, and f's
+pub record Own (q : Question) (s : Bytes) (f : ℕ) : Type 0 where
+  pub judged : Judging q s Granted 0
+  pub own : (r : Reply) → Is 12 s r → r .fragment ≡ f
 
 -- the used part of the store is exactly the heard fragments' replies, each placed as recorded
 pub record Laid (q : Question) (used : ℕ) (store : Bytes) : Type 0 where
   pub fits : used ≤ length store
-  pub replies : (f : ℕ) → Heard q f → Own q store f
+  pub replies : (f : ℕ) → Heard q f → Own q (partOf q store f) f
   pub tiled : Tiled (Heard q) (startOf q) (sizeOf q) used
 
 pub record Opened (q : Question) (used : ℕ) (store : Bytes) : Type 0 where

@@ -4,13 +4,13 @@ use reply::judging::reply_check;
 use reply::take_in;
 ghost use mathlib.Core.Path.{_≡_};
 ghost use mathlib.Core.Logic.{_⊎_};
-ghost use Prim.Native.Nat.{_+_, _-_, _*_, _^_, _≤_, _<_};
-ghost use lib.ListN.{length, getD};
+ghost use Prim.Native.Nat.{_+_, _*_, _^_, _≤_, _<_};
+ghost use lib.ListN.{length};
 ghost use Rattle.meaning.specs.Says.{Says};
 ghost use Rattle.meaning.specs.Register.{parentOf, Layout};
 ghost use Rattle.reply.specs.inner.Decode.{insTo, inAt};
-ghost use Rattle.whole.specs.Whole.{Rules, Heard, startOf, sizeOf, Laid, Whole};
-ghost use Rattle.whole.specs.inner.Steps.{StandsFor, Judged, Starts, Apart, PartOk, FragmentOk};
+ghost use Rattle.whole.specs.Whole.{Rules, Heard, startOf, sizeOf, partOf, Own, Laid, Whole};
+ghost use Rattle.whole.specs.inner.Steps.{StandsFor, Judged, HeardIn, numberIn, Starts, Apart, TileOk, Tested};
 
 // A question: its number (0: none is open), entry count, layout, and for each fragment whether it is heard (0: it is not),
 // where its reply starts in the store and how many bytes it has.
@@ -167,64 +167,28 @@ pub fn judge(q: Question, s: &[u8]) -> u8
 
 // ---- the store
 
-pub fn place_of(q: Question, f: usize) -> usize
+pub fn is_heard(heard: &[u8; 32], f: usize) -> bool
     requires { ⌜ f < 32 ⌝ }
-    ensures { λ r. ⌜ r ≡ startOf q f ⌝ }
+    ensures { λ r. ⌜ Says (HeardIn (now (heard .entry)) f) r ⌝ }
 {
-    q.place[f]
-}
-
-pub fn size_of(q: Question, f: usize) -> usize
-    requires { ⌜ f < 32 ⌝ }
-    ensures { λ r. ⌜ r ≡ sizeOf q f ⌝ }
-{
-    q.size[f]
-}
-
-pub fn is_heard(q: Question, f: usize) -> bool
-    requires { ⌜ f < 32 ⌝ }
-    ensures { λ r. ⌜ Says (Heard q f) r ⌝ }
-{
-    q.heard[f] != 0
-}
-
-// Whether f's bytes lie in the used part and are a reply of f, free of 13 to 15.
-fn part_ok(q: Question, used: usize, store: &[u8], f: usize) -> bool
-    requires { ⌜ (q .parts ≤ 32) × (used ≤ length (now store)) × (f < 32) ⌝ }
-    ensures { λ r. ⌜ Says (PartOk q used (now (store .entry)) f) r ⌝ }
-{
-    let place = place_of(q, f);
-    let size = size_of(q, f);
-    if used < size {
-        return false;
-    }
-    if used - size < place {
-        return false;
-    }
-    let end = place + size;
-    let part = &store[place..end];
-    if judge(q, part) != 0 {
-        return false;
-    }
-    let h = header(part);
-    h.fragment as usize == f
+    heard[f] != 0
 }
 
 // If g is another heard fragment, whether its bytes and f's are apart.
-fn apart(q: Question, f: usize, g: usize) -> bool
-    requires { ⌜ (f < 32) × (g < 32) × (startOf q f + sizeOf q f < 2 ^ 64) ⌝ }
-    ensures { λ r. ⌜ Says (Heard q g → (g ≡ f → ⊥) → Apart (Heard q) (startOf q) (sizeOf q) f g) r ⌝ }
+fn apart(heard: &[u8; 32], place: &[usize; 32], size: &[usize; 32], f: usize, g: usize) -> bool
+    requires { ⌜ (f < 32) × (g < 32) × (numberIn (now place) f + numberIn (now size) f < 2 ^ 64) ⌝ }
+    ensures { λ r. ⌜ Says (HeardIn (now (heard .entry)) g → (g ≡ f → ⊥) → Apart (HeardIn (now (heard .entry))) (numberIn (now (place .entry))) (numberIn (now (size .entry))) f g) r ⌝ }
 {
     if g == f {
         return true;
     }
-    if !is_heard(q, g) {
+    if !is_heard(heard, g) {
         return true;
     }
-    let a = place_of(q, f);
-    let m = size_of(q, f);
-    let b = place_of(q, g);
-    let n = size_of(q, g);
+    let a = place[f];
+    let m = size[f];
+    let b = place[g];
+    let n = size[g];
     if a + m <= b {
         return true;
     }
@@ -234,13 +198,13 @@ fn apart(q: Question, f: usize, g: usize) -> bool
     n <= a - b
 }
 
-fn apart_from(q: Question, f: usize) -> bool
-    requires { ⌜ (f < 32) × (startOf q f + sizeOf q f < 2 ^ 64) ⌝ }
-    ensures { λ r. ⌜ Says ((g : _) → Heard q g → (g ≡ f → ⊥) → Apart (Heard q) (startOf q) (sizeOf q) f g) r ⌝ }
+fn apart_from(heard: &[u8; 32], place: &[usize; 32], size: &[usize; 32], f: usize) -> bool
+    requires { ⌜ (f < 32) × (numberIn (now place) f + numberIn (now size) f < 2 ^ 64) ⌝ }
+    ensures { λ r. ⌜ Says ((g : _) → HeardIn (now (heard .entry)) g → (g ≡ f → ⊥) → Apart (HeardIn (now (heard .entry))) (numberIn (now (place .entry))) (numberIn (now (size .entry))) f g) r ⌝ }
 {
     let mut g = 0;
     while g < 32 {
-        if !apart(q, f, g) {
+        if !apart(heard, place, size, f, g) {
             return false;
         }
         g += 1;
@@ -249,23 +213,23 @@ fn apart_from(q: Question, f: usize) -> bool
 }
 
 // Whether g is heard and placed at `at`.
-fn begins(q: Question, g: usize, at: usize) -> bool
+fn begins(heard: &[u8; 32], place: &[usize; 32], g: usize, at: usize) -> bool
     requires { ⌜ g < 32 ⌝ }
-    ensures { λ r. ⌜ Says (Heard q g × (startOf q g ≡ at)) r ⌝ }
+    ensures { λ r. ⌜ Says (HeardIn (now (heard .entry)) g × (numberIn (now (place .entry)) g ≡ at)) r ⌝ }
 {
-    if !is_heard(q, g) {
+    if !is_heard(heard, g) {
         return false;
     }
-    place_of(q, g) == at
+    place[g] == at
 }
 
 // Whether some heard fragment is placed at `at`.
-fn starts(q: Question, at: usize) -> bool
-    ensures { λ r. ⌜ Says (Starts (Heard q) (startOf q) (sizeOf q) at) r ⌝ }
+fn starts(heard: &[u8; 32], place: &[usize; 32], at: usize) -> bool
+    ensures { λ r. ⌜ ((size : _) → Says (Starts (HeardIn (now (heard .entry))) (numberIn (now (place .entry))) size at) r) ⌝ }
 {
     let mut g = 0;
     while g < 32 {
-        if begins(q, g, at) {
+        if begins(heard, place, g, at) {
             return true;
         }
         g += 1;
@@ -273,34 +237,87 @@ fn starts(q: Question, at: usize) -> bool
     false
 }
 
-// Whether f's bytes are the last, or others start where they end.
-fn followed(q: Question, used: usize, f: usize) -> bool
-    requires { ⌜ (f < 32) × (startOf q f + sizeOf q f < 2 ^ 64) ⌝ }
-    ensures { λ r. ⌜ Says ((startOf q f + sizeOf q f ≡ used) ⊎ Starts (Heard q) (startOf q) (sizeOf q) (startOf q f + sizeOf q f)) r ⌝ }
+// Whether a part that ends at `end` is the last, or others start where it ends.
+fn followed(heard: &[u8; 32], place: &[usize; 32], used: usize, end: usize) -> bool
+    ensures { λ r. ⌜ ((size : _) → Says ((end ≡ used) ⊎ Starts (HeardIn (now (heard .entry))) (numberIn (now (place .entry))) size end) r) ⌝ }
 {
-    let place = place_of(q, f);
-    let size = size_of(q, f);
-    let end = place + size;
     if end == used {
         return true;
     }
-    starts(q, end)
+    starts(heard, place, end)
 }
 
-fn fragment_ok(q: Question, used: usize, store: &[u8], f: usize) -> bool
-    requires { ⌜ (q .parts ≤ 32) × (used ≤ length (now store)) × (f < 32) ⌝ }
-    ensures { λ r. ⌜ Says (Heard q f → FragmentOk q used (now (store .entry)) f) r ⌝ }
+// If f is heard, whether its part is inside, apart from the others, and the last or followed.
+fn tile_ok(heard: &[u8; 32], place: &[usize; 32], size: &[usize; 32], used: usize, f: usize) -> bool
+    requires { ⌜ f < 32 ⌝ }
+    ensures { λ r. ⌜ Says (HeardIn (now (heard .entry)) f → TileOk (HeardIn (now (heard .entry))) (numberIn (now (place .entry))) (numberIn (now (size .entry))) used f) r ⌝ }
 {
-    if !is_heard(q, f) {
+    if !is_heard(heard, f) {
         return true;
     }
-    if !part_ok(q, used, store, f) {
+    let a = place[f];
+    let n = size[f];
+    if used < n {
         return false;
     }
-    if !apart_from(q, f) {
+    if used - n < a {
         return false;
     }
-    followed(q, used, f)
+    if !apart_from(heard, place, size, f) {
+        return false;
+    }
+    followed(heard, place, used, a + n)
+}
+
+// Whether the heard fragments' parts lie below `used` with no gap and no overlap.
+fn all_tiles(heard: &[u8; 32], place: &[usize; 32], size: &[usize; 32], used: usize) -> bool
+    ensures { λ r. ⌜ Says (Tested (HeardIn (now (heard .entry))) (numberIn (now (place .entry))) (numberIn (now (size .entry))) used) r ⌝ }
+{
+    let mut f = 0;
+    while f < 32 {
+        if !tile_ok(heard, place, size, used, f) {
+            return false;
+        }
+        f += 1;
+    }
+    if used == 0 {
+        return true;
+    }
+    starts(heard, place, 0)
+}
+
+// Whether the bytes s are a reply of f, free of 13 to 15.
+fn part_ok(q: Question, s: &[u8], f: usize) -> bool
+    requires { ⌜ q .parts ≤ 32 ⌝ }
+    ensures { λ r. ⌜ Says (Own q (now (s .entry)) f) r ⌝ }
+{
+    if judge(q, s) != 0 {
+        return false;
+    }
+    let h = header(s);
+    h.fragment as usize == f
+}
+
+// Whether the bytes recorded for each heard fragment are its reply.
+fn replies_ok(q: Question, store: &[u8]) -> bool
+    requires { ⌜ (q .parts ≤ 32) × ((f : _) → Heard q f → startOf q f + sizeOf q f ≤ length (now store)) ⌝ }
+    ensures { λ r. ⌜ Says ((f : _) → Heard q f → Own q (partOf q (now (store .entry)) f) f) r ⌝ }
+{
+    let heard = q.heard;
+    let place = q.place;
+    let size = q.size;
+    let mut f = 0;
+    while f < 32 {
+        if is_heard(&heard, f) {
+            let a = place[f];
+            let end = a + size[f];
+            if !part_ok(q, &store[a..end], f) {
+                return false;
+            }
+        }
+        f += 1;
+    }
+    true
 }
 
 // Whether the used part of the store is exactly the heard fragments' replies.
@@ -311,17 +328,13 @@ fn laid(q: Question, used: usize, store: &[u8]) -> bool
     if store.len() < used {
         return false;
     }
-    let mut f = 0;
-    while f < 32 {
-        if !fragment_ok(q, used, store, f) {
-            return false;
-        }
-        f += 1;
+    let heard = q.heard;
+    let place = q.place;
+    let size = q.size;
+    if !all_tiles(&heard, &place, &size, used) {
+        return false;
     }
-    if used == 0 {
-        return true;
-    }
-    starts(q, 0)
+    replies_ok(q, store)
 }
 
 // ---- the record
@@ -344,12 +357,12 @@ fn rules(q: Question) -> bool
     layout_ok(&l[0..parts])
 }
 
-fn none_heard(q: Question) -> bool
-    ensures { λ r. ⌜ Says ((f : _) → Heard q f → ⊥) r ⌝ }
+fn none_heard(heard: &[u8; 32]) -> bool
+    ensures { λ r. ⌜ Says ((f : _) → HeardIn (now (heard .entry)) f → ⊥) r ⌝ }
 {
     let mut f = 0;
     while f < 32 {
-        if is_heard(q, f) {
+        if is_heard(heard, f) {
             return false;
         }
         f += 1;
@@ -369,7 +382,8 @@ pub fn whole(desk: Record, store: &[u8]) -> bool
         if used != 0 {
             return false;
         }
-        return none_heard(q);
+        let heard = q.heard;
+        return none_heard(&heard);
     }
     if !rules(q) {
         return false;

@@ -5,16 +5,15 @@ use native.Mathlib.Omega.{arith}
 use Rattle.meaning.specs.Says.{aye, nay}
 use Rattle.reply.proofs.Tests.{says-yes, says-no}
 use Rattle.reply.proofs.Lists.{up-to-suc}
-use Rattle.whole.specs.Whole.{Heard, startOf, sizeOf}
-use Rattle.whole.specs.inner.Steps.{Apart}
+use Rattle.whole.specs.inner.Steps.{HeardIn, numberIn, Apart}
 use Rattle.whole.proofs.apart_from.Statement.{statement}
 use Rattle.whole.proofs.apart_from.Tie as tie
 
 abbrev Inv-loop : tie.InvT-loop
-Inv-loop q f g₀ g = (g ≤ 32) × ((j : ℕ) → j < g → Heard q j → (j ≡ f → ⊥) → Apart (Heard q) (startOf q) (sizeOf q) f j)
+Inv-loop heard place size f g₀ g = (g ≤ 32) × ((j : ℕ) → j < g → HeardIn heard j → (j ≡ f → ⊥) → Apart (HeardIn heard) (numberIn place) (numberIn size) f j)
 
 abbrev μ-loop : tie.MeasureT-loop
-μ-loop q f g₀ g = 32 - g
+μ-loop heard place size f g₀ g = 32 - g
 
 loop-holds : tie.Need-loop-holds Inv-loop μ-loop
 loop-holds c = (omega arith, λ j h. absurd (omega arith))
@@ -32,7 +31,7 @@ loop-less : tie.Need-loop-less Inv-loop μ-loop
 loop-less c = omega arith
 
 loop-again : tie.Need-loop-again Inv-loop μ-loop
-loop-again c = (omega arith, λ j h. up-to-suc (λ j. Heard (c .before .before .before .before .args .q) j → (j ≡ c .before .before .before .before .args .f → ⊥) → Apart (Heard (c .before .before .before .before .args .q)) (startOf (c .before .before .before .before .args .q)) (sizeOf (c .before .before .before .before .args .q)) (c .before .before .before .before .args .f) j) (c .before .before .before .loop .g) (c .before .before .before .loop .inv .1) (says-yes (c .before .apart .ensures) (c .if1 .left)) j (omega arith))
+loop-again c = (omega arith, λ j h. up-to-suc (λ j. HeardIn (c .before .before .before .before .args .heard .now) j → (j ≡ c .before .before .before .before .args .f → ⊥) → Apart (HeardIn (c .before .before .before .before .args .heard .now)) (numberIn (c .before .before .before .before .args .place .now)) (numberIn (c .before .before .before .before .args .size .now)) (c .before .before .before .before .args .f) j) (c .before .before .before .loop .g) (c .before .before .before .loop .inv .1) (says-yes (c .before .apart .ensures) (c .if1 .left)) j (omega arith))
 
 returns-2 : tie.Need-returns-2 Inv-loop μ-loop
 returns-2 c = aye (λ j h n. c .before .loop .inv .1 j (omega (arith, h .0, c .loop-test .left)) h n)

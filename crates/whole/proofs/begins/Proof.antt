@@ -1,5 +1,4 @@
 -- `whole::begins` meets its contract.
-use mathlib.Core.Path.{sym, _∙_}
 use Rattle.meaning.specs.Says.{nay}
 use Rattle.meaning.proofs.Says.{says-iff}
 use Rattle.reply.proofs.Tests.{says-eq, says-yes, says-no}
@@ -13,11 +12,15 @@ is-heard-requires c κs = search needs
 returns : tie.Need-returns
 returns c = nay (λ h. says-no (c .before .is-heard .ensures) (c .if1 .taken) (h .0))
 
-place-of-requires : tie.Need-place-of-requires
-place-of-requires c κs = search needs
+mul-result : tie.Need-mul-result
+mul-result c = search needs
+
+element-copy-out-result : tie.Need-element-copy-out-result
+element-copy-out-result c = search needs
 
 returns-2 : tie.Need-returns-2
-returns-2 c = says-iff (λ e. (says-yes (c .before .before .is-heard .ensures) (c .before .if1 .left), sym (c .place-of .ensures) ∙ e)) (λ h. c .place-of .ensures ∙ h .1) (says-eq _ _)
+returns-2 c = says-iff (λ e. (says-yes (c .before .before .is-heard .ensures) (c .before .if1 .left), e)) (λ h. h .1) (says-eq _ _)
 
 pub begins-spec : {M : Type 1} → statement M
-begins-spec = tie.close (tie.spec is-heard-requires returns place-of-requires returns-2)
+begins-spec =
+    tie.close (tie.spec is-heard-requires returns mul-result element-copy-out-result returns-2)

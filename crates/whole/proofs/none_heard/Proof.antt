@@ -4,15 +4,15 @@ use native.Mathlib.Omega.{arith}
 use Rattle.meaning.specs.Says.{aye, nay}
 use Rattle.meaning.proofs.Says.{says-true, says-false}
 use Rattle.reply.proofs.Lists.{up-to-suc}
-use Rattle.whole.specs.Whole.{Heard}
+use Rattle.whole.specs.inner.Steps.{HeardIn}
 use Rattle.whole.proofs.none_heard.Statement.{statement}
 use Rattle.whole.proofs.none_heard.Tie as tie
 
 abbrev Inv-loop : tie.InvT-loop
-Inv-loop q f₀ f = (f ≤ 32) × ((j : ℕ) → j < f → Heard q j → ⊥)
+Inv-loop heard f₀ f = (f ≤ 32) × ((j : ℕ) → j < f → HeardIn heard j → ⊥)
 
 abbrev μ-loop : tie.MeasureT-loop
-μ-loop q f₀ f = 32 - f
+μ-loop heard f₀ f = 32 - f
 
 loop-holds : tie.Need-loop-holds Inv-loop μ-loop
 loop-holds c = (omega arith, λ j h. absurd (omega arith))
@@ -30,7 +30,7 @@ loop-less : tie.Need-loop-less Inv-loop μ-loop
 loop-less c = omega arith
 
 loop-again : tie.Need-loop-again Inv-loop μ-loop
-loop-again c = (omega arith, λ j h. up-to-suc (λ j. Heard (c .before .before .before .before .args .q) j → ⊥) (c .before .before .before .loop .f) (c .before .before .before .loop .inv .1) (says-false (c .before .is-heard .ensures) (c .if1 .left)) j (omega arith))
+loop-again c = (omega arith, λ j h. up-to-suc (λ j. HeardIn (c .before .before .before .before .args .heard .now) j → ⊥) (c .before .before .before .loop .f) (c .before .before .before .loop .inv .1) (says-false (c .before .is-heard .ensures) (c .if1 .left)) j (omega arith))
 
 returns-2 : tie.Need-returns-2 Inv-loop μ-loop
 returns-2 c = aye (λ j h. c .before .loop .inv .1 j (omega (arith, h .0, c .loop-test .left)) h)

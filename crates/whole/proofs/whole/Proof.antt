@@ -16,7 +16,7 @@ none-heard-requires : tie.Need-none-heard-requires
 none-heard-requires c κs = search needs
 
 returns-3 : tie.Need-returns-3
-returns-3 c = whole-fresh (c .before .before .before .before .before .before .before .before .args .desk) (c .before .before .before .before .before .before .before .before .args .store .now) (c .before .before .before .before .if1 .taken) (c .before .before .if2 .left) (c .before .if3 .left) (c .none-heard .ensures)
+returns-3 c = whole-fresh (c .before .before .before .before .before .before .before .before .before .before .args .desk) (c .before .before .before .before .before .before .before .before .before .before .args .store .now) (c .before .before .before .before .before .before .if1 .taken) (c .before .before .before .before .if2 .left) (c .before .before .before .if3 .left) (c .none-heard .ensures)
 
 rules-requires : tie.Need-rules-requires
 rules-requires c κs = search needs

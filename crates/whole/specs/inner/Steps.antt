@@ -1,11 +1,13 @@
 -- What the tests of `whole` ask, piece by piece. Inner functions' contracts cite these.
 use Prim.Native.Nat.{ℕ, _+_, _≤_, _<_}
 use mathlib.Core.Path.{_≡_}
-use mathlib.Core.Logic.{_⊎_}
+use mathlib.Core.Logic.{_⊎_, _≢_}
+use mathlib.Core.List.{List}
+use lib.ListN.{getD}
 use Rattle.meaning.specs.Bytes.{Bytes}
 use Rattle.reply.specs.inner.Decode.{inAt}
 use Rattle.meaning.specs.Refused.{Granted}
-use Rattle.whole.specs.Whole.{Judging, Heard, startOf, sizeOf, Own}
+use Rattle.whole.specs.Whole.{Judging}
 use Rattle.whole.specs.declared.Question.{Question}
 
 -- g is among the first k stand-ins
@@ -18,6 +20,13 @@ pub record StandsFor (s : Bytes) (k g : ℕ) : Type 0 where
 abbrev pub Judged : Question → Bytes → ℕ → Type 0
 Judged q s = Judging q s Granted
 
+-- a question's `Heard`, and its places and sizes, of the arrays alone
+abbrev pub HeardIn : List ℕ → ℕ → Type 0
+HeardIn heard f = (f < 32) × (getD heard f 0 ≢ 0)
+
+abbrev pub numberIn : List ℕ → ℕ → ℕ
+numberIn l f = getD l f 0
+
 module _ (H : ℕ → Type 0) (place size : ℕ → ℕ) where
   -- some part starts at x
   pub record Starts (x : ℕ) : Type 0 where
@@ -28,11 +37,12 @@ module _ (H : ℕ → Type 0) (place size : ℕ → ℕ) where
   abbrev pub Apart : ℕ → ℕ → Type 0
   Apart f g = (place f + size f ≤ place g) ⊎ (place g + size g ≤ place f)
 
-pub record PartOk (q : Question) (used : ℕ) (store : Bytes) (f : ℕ) : Type 0 where
-  pub inside : startOf q f + sizeOf q f ≤ used
-  pub reply : Own q store f
+  -- part f is inside, apart from the others, and the last or followed
+  pub record TileOk (used f : ℕ) : Type 0 where
+    pub inside : place f + size f ≤ used
+    pub apart : (g : ℕ) → H g → (g ≡ f → ⊥) → Apart f g
+    pub follows : (place f + size f ≡ used) ⊎ Starts (place f + size f)
 
-pub record FragmentOk (q : Question) (used : ℕ) (store : Bytes) (f : ℕ) : Type 0 where
-  pub part : PartOk q used store f
-  pub apart : (g : ℕ) → Heard q g → (g ≡ f → ⊥) → Apart (Heard q) (startOf q) (sizeOf q) f g
-  pub follows : (startOf q f + sizeOf q f ≡ used) ⊎ Starts (Heard q) (startOf q) (sizeOf q) (startOf q f + sizeOf q f)
+  pub record Tested (used : ℕ) : Type 0 where
+    pub each : (f : ℕ) → H f → TileOk used f
+    pub begins : (used ≡ 0) ⊎ Starts 0
