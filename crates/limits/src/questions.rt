@@ -23,7 +23,7 @@ pub fn run() {
 
 fn read(text: &[u8]) -> u8 {
     let a = question_read(text);
-    a.refusal
+    (a.refusal % 256) as u8
 }
 
 fn bytes() {

@@ -40,7 +40,7 @@ fn answer(text: &[u8]) {
             b'e',
             b'd',
             b' ',
-            48 + answer.refusal % 10,
+            48 + (answer.refusal % 10) as u8,
             b'\n',
         ],
     ) {

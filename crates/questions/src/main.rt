@@ -212,7 +212,7 @@ fn show(text: &[u8]) {
             b'e',
             b'd',
             b' ',
-            48 + answer.refusal % 10,
+            48 + (answer.refusal % 10) as u8,
             b'\n',
         ],
     );

@@ -12,7 +12,8 @@ use Rattle.meaning.specs.Question.{Question, Conj, Part, write, writeConj, writ
 use Rattle.meaning.specs.Term.{Term, normal, normalConj, normalPart}
 use Rattle.meaning.specs.Entry.{root}
 use Rattle.reader.specs.declared.State.{State}
-use Rattle.reader.specs.Packed.{Place, placeOf}
+use Rattle.question.specs.Listed.{Place}
+use Rattle.reader.specs.Packed.{placeOf}
 use Rattle.reader.specs.inner.Reading.{added, moved, byteAt, reach, reachConj, reachPart, Form, TreeOf, textOf, termOf, reachOf, PathEnds, ConjEnds, QuestionEnds, Follows, Made, MadeOf, slack, Ready, Goes, Reads, Chain, whole, item, sign, single, joined, grown, writeChain, Extends}
 use Rattle.reader.proofs.Text.{inside, head-at, cons-at}
 use Rattle.reader.proofs.Emit.{emit-or, emit-and}

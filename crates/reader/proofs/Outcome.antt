@@ -17,10 +17,10 @@ use Rattle.question.specs.declared.List as L
 use Rattle.reader.specs.declared.State.{State}
 use Rattle.reader.specs.declared.Answer.{Answer}
 use Rattle.reader.specs.Nesting.{nesting}
-use Rattle.reader.specs.Packed.{Place, placeOf, placedEntries, packed, emptyList}
+use Rattle.reader.specs.Packed.{placeOf, placedEntries, packed, emptyList}
 use Rattle.reader.specs.Read.{Written, refused, Read}
 use Rattle.reader.specs.inner.Reading.{kept, emitted, Form, Ready, Reads, MadeOf, Scanned}
-use Rattle.question.specs.Listed.{Keeps, listed}
+use Rattle.question.specs.Listed.{Place, Keeps, listed}
 use Rattle.reader.specs.Promise.{OneRead, ReadKeeps, ReadListed}
 use Rattle.reader.proofs.Emit.{kept-count}
 use Rattle.reader.proofs.Nesting.{reach-all}
