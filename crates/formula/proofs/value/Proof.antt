@@ -1,6 +1,6 @@
 use native.Mathlib.Omega.{arith}
 use mathlib.Core.Path.{_∙_}
-use Rattle.question.specs.Listed.{kindOf}
+use Rattle.question.specs.Listed.{entryOf}
 use Rattle.formula.proofs.KindTests.{left-reads, right-reads, told-value, both-value}
 use borrow.Author.Needs.{needs}
 use Rattle.formula.proofs.value.Statement.{statement}
@@ -28,7 +28,7 @@ slice-read-child : tie.Need-slice-read-child
 slice-read-child c = omega (arith, left-reads _ _ _ _ (c .before .before .if1 .left) (c .before .before .before .before .pre .1 .2), c .before .before .before .before .pre .1 .1)
 
 returns-2 : tie.Need-returns-2
-unfolding kindOf
+unfolding entryOf
 returns-2 c = record { is = rw (c .before .if2 .taken); count = search needs }
 
 add-lower : tie.Need-add-lower
@@ -41,7 +41,7 @@ slice-read-lower : tie.Need-slice-read-lower
 slice-read-lower c = omega (arith, left-reads _ _ _ _ (c .before .before .before .if1 .left) (c .before .before .before .before .before .pre .1 .2), c .before .before .before .before .before .pre .1 .1)
 
 returns-3 : tie.Need-returns-3
-unfolding kindOf
+unfolding entryOf
 returns-3 c = record { is = rw (c .before .if3 .taken); count = search needs }
 
 add-a : tie.Need-add-a
@@ -60,7 +60,7 @@ same-length : tie.Need-same-length
 same-length c = search needs
 
 returns-4 : tie.Need-returns-4
-unfolding kindOf
+unfolding entryOf
 returns-4 c = record { is = rw (c .before .before .before .before .if4 .taken) (c .before .before .negated .ensures .is); count = search needs }
 
 add-b : tie.Need-add-b
@@ -79,7 +79,7 @@ same-length-2 : tie.Need-same-length-2
 same-length-2 c = search needs
 
 returns-5 : tie.Need-returns-5
-unfolding kindOf
+unfolding entryOf
 returns-5 c = record { is = rw (c .before .before .before .before .if5 .taken) (c .before .before .joined .ensures .is); count = search needs }
 
 joined-requires-2 : tie.Need-joined-requires-2
