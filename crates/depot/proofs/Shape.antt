@@ -108,7 +108,7 @@ module _ (n : ℕ) where
 
   -- ONE ROW, of k entries
   module _ (k : ℕ) (lab txt : Bytes → Bool) where
-    value-fine : (i : ℕ) → i ≤ k → (e : Entry Bytes) → Points i e → (s : List Step) (v c d : ℕ → Ref) → Good s → All (length s) i v → All (length s) k c → All (length s) k d → Fine (valueOf formula lab txt e s v c d)
+    value-fine : (i : ℕ) → i ≤ k → (e : Entry Bytes) → Points (λ w. Unit {0}) i e → (s : List Step) (v c d : ℕ → Ref) → Good s → All (length s) i v → All (length s) k c → All (length s) k d → Fine (valueOf formula lab txt e s v c d)
     value-fine i h Entry.self p s v c d g hv hc hd = literal-fine s true g
     value-fine i h (Entry.label w) p s v c d g hv hc hd = literal-fine s (lab w) g
     value-fine i h (Entry.text w) p s v c d g hv hc hd = literal-fine s (txt w) g
