@@ -219,11 +219,11 @@ fn show(text: &[u8]) {
 }
 
 fn print_list(list: List, text: &[u8]) {
-    let mut page = [0u8; 2400];
-    let shown = question_listing(list, text, &mut page);
-    if shown.length > 2400 {
+    let mut page = [0u8; 2369];
+    let length = question_listing(list, text, &mut page);
+    if length > 2369 {
         return;
     }
-    let size = io::count(shown.length as isize, &page);
+    let size = io::count(length as isize, &page);
     io::write_all(1, &page[..size]);
 }
