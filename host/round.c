@@ -32,7 +32,7 @@ struct reply {
     size_t size;
 };
 
-static const char *words(unsigned refusal)
+static const char *words(size_t refusal)
 {
     switch (refusal) {
     case REGISTER_BOX_TAKEN: return "taken";
@@ -137,9 +137,9 @@ static int all_orders(size_t entries)
 static void show_list(const char *text, struct question_list list)
 {
     static uint8_t page[REGISTER_BOX_MOST_LISTING];
-    struct question_shown shown = question_listing(list, (const uint8_t *)text, strlen(text), page, sizeof page);
+    size_t length = question_listing(list, (const uint8_t *)text, strlen(text), page, sizeof page);
     printf("\nQuestion %d: %s\n", NUMBER, text);
-    for (size_t i = 0; i < shown.length; i++)
+    for (size_t i = 0; i < length; i++)
         printf("%s%c", i == 0 || page[i - 1] == '\n' ? "  " : "", page[i]);
 }
 

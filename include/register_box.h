@@ -38,7 +38,7 @@ extern "C" {
 #define REGISTER_BOX_MOST_FRAGMENTS 32   /* fragments of a register, numbered 0 to 31 */
 #define REGISTER_BOX_MOST_STEPS 4096     /* steps of a depot's formula */
 #define REGISTER_BOX_MOST_REPLY 15499    /* bytes of a reply: a buffer of this size is never too short */
-#define REGISTER_BOX_MOST_LISTING 2400   /* bytes of a listing: a buffer of this size is never too short */
+#define REGISTER_BOX_MOST_LISTING 2369   /* bytes of a listing: a buffer of this size is never too short */
 #define REGISTER_BOX_NO_PARENT 4294967295u /* the parent number of a fragment's row 0 */
 #define REGISTER_BOX_TOP 255             /* the layout byte of fragment 0 */
 
@@ -91,7 +91,7 @@ struct question_list {
 };
 
 struct question_answer {
-    uint8_t refusal; /* 0, or a number of refusal, and then the list is empty: all zeros */
+    size_t refusal; /* 0, or a number of refusal, and then the list is empty: all zeros */
     struct question_list list;
 };
 
@@ -106,14 +106,10 @@ struct question_answer {
    Refuses, in this order: 1 no byte or over 255; 2 not of the grammar; 3 nesting over 12; 4 over 32 entries. */
 struct question_answer question_read(const uint8_t *text, size_t text_length);
 
-struct question_shown {
-    uint8_t said;  /* 0 written; 1 the list breaks its rules; 2 the buffer is too short. These are no numbers of refusal. */
-    size_t length; /* 0: bytes written; 1: 0; 2: bytes needed */
-};
-
-/* Writes a list for a person: a line with the count, then a line for each entry. The buffer holds the whole listing from its beginning on and
-   is unchanged past it; with 1 and 2 it is unchanged. */
-struct question_shown question_listing(struct question_list list, const uint8_t *text, size_t text_length, uint8_t *out, size_t out_length);
+/* Writes a list for a person: a line with the count, then a line for each entry. Gives the listing's length, whether or not it fits, and 0 where
+   the list breaks its rules. Where it fits, the buffer holds the whole listing from its beginning on and is unchanged past it; otherwise the
+   buffer is unchanged. So a host may ask for the length first, with a buffer of length 0, and then lend one of that length. */
+size_t question_listing(struct question_list list, const uint8_t *text, size_t text_length, uint8_t *out, size_t out_length);
 
 /* ---- Depots ---- */
 
@@ -206,7 +202,7 @@ struct desk_asked desk_ask(const struct desk_record *desk, const uint8_t *store,
 /* A compiler that lays these structs out otherwise than the library cannot use it. */
 #if defined(__STDC_VERSION__) && __STDC_VERSION__ >= 201112L
 _Static_assert(sizeof(struct question_list) == 104 && sizeof(struct question_answer) == 112, "question_list, question_answer");
-_Static_assert(sizeof(struct question_shown) == 16 && sizeof(struct depot_answer) == 16, "question_shown, depot_answer");
+_Static_assert(sizeof(struct depot_answer) == 16, "depot_answer");
 _Static_assert(sizeof(struct desk_question) == 600 && sizeof(struct desk_record) == 616, "desk_question, desk_record");
 _Static_assert(sizeof(struct desk_asked) == 2, "desk_asked");
 #endif

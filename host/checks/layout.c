@@ -77,20 +77,15 @@ static void lists(void)
     static const char text[] = "B17";
     uint8_t out[REGISTER_BOX_MOST_LISTING];
     struct question_list list = list_of(32);
-    struct question_shown shown;
+    size_t length;
     list.kinds[31] = 1;
     list.left[31] = 1;
     list.right[31] = 2;
-    shown = question_listing(list, (const uint8_t *)text, 3, out, sizeof out);
-    expect("question_shown.said", shown.said, 0);
-    expect("question_shown.length", shown.length, 11 + 10 * 7 + 21 * 8 + 12);
-    expect("the last line", (size_t)memcmp(out + shown.length - 12, "31 label 17\n", 12), 0);
-    shown = question_listing(list, (const uint8_t *)text, 3, out, shown.length - 1);
-    expect("question_shown.said, too short", shown.said, 2);
-    expect("question_shown.length, too short", shown.length, 11 + 10 * 7 + 21 * 8 + 12);
+    length = question_listing(list, (const uint8_t *)text, 3, out, sizeof out);
+    expect("question_list, listed", length, 11 + 10 * 7 + 21 * 8 + 12);
+    expect("the last line", (size_t)memcmp(out + length - 12, "31 label 17\n", 12), 0);
     list.right[31] = 3;
-    shown = question_listing(list, (const uint8_t *)text, 3, out, sizeof out);
-    expect("question_shown.said, not a list", shown.said, 1);
+    expect("question_list.right, not a list", question_listing(list, (const uint8_t *)text, 3, out, sizeof out), 0);
 }
 
 /* Fragment 0 has row 0 and a stand-in for each other fragment, these have row 0 alone; the question is self. The C and the D of fragment 0's
@@ -218,7 +213,7 @@ static void nulls(void)
 {
     struct desk_record desk = desk_fresh();
     expect("no text", question_read(NULL, 0).refusal, REGISTER_BOX_TEXT_LENGTH);
-    expect("no buffer for a listing", question_listing(list_of(1), NULL, 0, NULL, 0).said, 2);
+    expect("no buffer for a listing", question_listing(list_of(1), NULL, 0, NULL, 0), 17);
     expect("no list, no rows", depot_reply(NULL, 0, list_of(0), NULL, 0, NULL, 0, 0, 1, NULL, 0, NULL, 0).refusal, REGISTER_BOX_BAD_LIST);
     expect("no rows", depot_reply(NULL, 0, list_of(1), NULL, 0, NULL, 0, 0, 1, NULL, 0, NULL, 0).refusal, REGISTER_BOX_BAD_FRAGMENT);
     expect("no bytes", reply_check(NULL, 0), REGISTER_BOX_NOT_A_REPLY);

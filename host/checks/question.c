@@ -1,5 +1,5 @@
-/* question         Reads the deepest questions that 255 bytes can write, under the stack that the header names, and lists 01's example into
-                    buffers that are just long enough and one byte short.
+/* question         Reads the deepest questions that 255 bytes can write, under the stack that the header names; lists 01's example into
+                    buffers that are just long enough and one byte short, and the longest list there is.
    question stack   Measures how much stack any text makes question_read use, and compares it with the header. It needs more itself. */
 #include "register_box.h"
 
@@ -50,16 +50,29 @@ static void listing(void)
     uint8_t out[SIZE + 1];
     struct question_list list = question_read((const uint8_t *)question, sizeof question - 1).list;
     memset(out, 0xa5, sizeof out);
-    struct question_shown shown = question_listing(list, (const uint8_t *)question, sizeof question - 1, out, SIZE - 1);
-    expect("one byte short", shown.said, 2);
-    expect("length needed", shown.length, SIZE);
+    expect("no buffer", question_listing(list, (const uint8_t *)question, sizeof question - 1, NULL, 0), SIZE);
+    expect("one byte short", question_listing(list, (const uint8_t *)question, sizeof question - 1, out, SIZE - 1), SIZE);
     for (size_t i = 0; i < sizeof out; i++)
         expect("nothing written", out[i], 0xa5);
-    shown = question_listing(list, (const uint8_t *)question, sizeof question - 1, out, SIZE);
-    expect("exactly full", shown.said, 0);
-    expect("length", shown.length, SIZE);
+    expect("exactly full", question_listing(list, (const uint8_t *)question, sizeof question - 1, out, SIZE), SIZE);
     expect("01's example", (size_t)memcmp(out, lines, SIZE), 0);
     expect("past the buffer", out[SIZE], 0xa5);
+}
+
+/* 32 labels of 64 bytes each. */
+static void longest_listing(void)
+{
+    static uint8_t out[REGISTER_BOX_MOST_LISTING];
+    struct question_list list;
+    memset(&list, 0, sizeof list);
+    list.count = REGISTER_BOX_MOST_ENTRIES;
+    memset(list.kinds, 1, sizeof list.kinds);
+    memset(list.right, REGISTER_BOX_MOST_WORD, sizeof list.right);
+    memset(text, 'x', sizeof text);
+    expect("the longest listing", question_listing(list, text, sizeof text, out, sizeof out), sizeof out);
+    expect("its last byte", out[sizeof out - 1], '\n');
+    list.right[0]++;
+    expect("a word of 65 bytes", question_listing(list, text, sizeof text, out, sizeof out), 0);
 }
 
 /* ---- how deep reading goes ---- */
@@ -162,6 +175,7 @@ int main(int argc, char **argv)
     } else {
         deepest_texts();
         listing();
+        longest_listing();
     }
     printf("question: %d answers, %d wrong\n", asked, wrong);
     return wrong != 0;

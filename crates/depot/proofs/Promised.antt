@@ -9,17 +9,17 @@ use lib.ListN.{length, getD, drop}
 use lib.Dec.{eqb}
 use native.Mathlib.Decide.{decLt}
 use Rattle.meaning.specs.Bytes.{Bytes, word}
-use Rattle.meaning.specs.Entry.{Entry}
+use Rattle.meaning.specs.Entry.{Entry, Points}
 use Rattle.meaning.specs.Fragment.{Fragment, rowCount, rowsOf}
 use Rattle.meaning.specs.Reply.{tabulated, laidDown}
 use Rattle.meaning.proofs.StepBound.{no-steps}
 use Rattle.question.specs.declared.List as L
-use Rattle.question.specs.Listed.{Kind, kindOf, EntryRule, Keeps, entryOf, listed}
+use Rattle.question.specs.Listed.{Place, Inside, entryOf, placed, EntryRule, Keeps, listed}
 use Rattle.reply.specs.Write.{write}
 use Rattle.meaning.specs.Refused.{Unless, refused, passed, Granted, granted}
 use Rattle.meaning.proofs.Refused.{One, one-granted, one-unless, beyond}
 use Rattle.depot.specs.Answer.{Call, call, laid, bytes, Late, Refusal, Answered, memoryAfter, bufferAfter}
-use Rattle.depot.specs.Promise.{OneAnswer, OnlyEight, NeverEight, LaidWellFormed, SameUse, Agree, UnusedIgnored}
+use Rattle.depot.specs.Promise.{OneAnswer, OnlyEight, NeverEight, LaidWellFormed, Agree, UnusedIgnored}
 use Rattle.writing.proofs.Laid.{laid-formed}
 use Rattle.question.proofs.Listed.{listed-length, keeps-earlier}
 
@@ -69,29 +69,18 @@ laid-well-formed c l small few =
     laid-formed (c .number) (c .part) (c .fragment) (l .sound) (listed (c .list) (c .text)) (omega (arith, n, l .keeps .some-entry)) (omega (arith, n, l .keeps .most)) (l .asked) small few
 
 -- WHAT IS NOT USED
-same-entry : (t : Bytes) (q : Kind) (a b a′ b′ : ℕ) → SameUse q a b a′ b′ → entryOf t q a b ≡ entryOf t q a′ b′
-same-entry t Kind.self a b a′ b′ h = refl
-same-entry t Kind.label a b a′ b′ h = λ i. Entry.label (word t (h .0 i) (h .1 i))
-same-entry t Kind.text a b a′ b′ h = λ i. Entry.text (word t (h .0 i) (h .1 i))
-same-entry t Kind.child a b a′ b′ h = ap Entry.child h
-same-entry t Kind.at a b a′ b′ h = λ i. Entry.at (h .0 i) (h .1 i)
-same-entry t Kind.lower a b a′ b′ h = ap Entry.lower h
-same-entry t Kind.or a b a′ b′ h = λ i. Entry.or (h .0 i) (h .1 i)
-same-entry t Kind.and a b a′ b′ h = λ i. Entry.and (h .0 i) (h .1 i)
-same-entry t Kind.not a b a′ b′ h = ap Entry.not h
-same-entry t Kind.unknown a b a′ b′ h = refl
-
-same-rule : (t : Bytes) (i : ℕ) (q : Kind) (a b a′ b′ : ℕ) → SameUse q a b a′ b′ → EntryRule t i q a b ≡ EntryRule t i q a′ b′
-same-rule t i Kind.self a b a′ b′ h = refl
-same-rule t i Kind.label a b a′ b′ h = λ j. (h .1 j ≤ 64) × (h .0 j + h .1 j ≤ length t)
-same-rule t i Kind.text a b a′ b′ h = λ j. (h .1 j ≤ 64) × (h .0 j + h .1 j ≤ length t)
-same-rule t i Kind.child a b a′ b′ h = ap (λ a. a < i) h
-same-rule t i Kind.at a b a′ b′ h = λ j. (h .0 j < i) × (h .1 j < i)
-same-rule t i Kind.lower a b a′ b′ h = ap (λ a. a < i) h
-same-rule t i Kind.or a b a′ b′ h = λ j. (h .0 j < i) × (h .1 j < i)
-same-rule t i Kind.and a b a′ b′ h = λ j. (h .0 j < i) × (h .1 j < i)
-same-rule t i Kind.not a b a′ b′ h = ap (λ a. a < i) h
-same-rule t i Kind.unknown a b a′ b′ h = refl
+same-named : (t : Bytes) (k a b a′ b′ : ℕ) → placed k a b ≡ placed k a′ b′ → entryOf (word t) k a b ≡ entryOf (word t) k a′ b′
+unfolding entryOf
+same-named t zero a b a′ b′ e = refl
+same-named t (suc zero) a b a′ b′ e = let p : _≡_ {A = Place} (a, b) (a′, b′) = cc in ap (λ p. Entry.label (word t (p .0) (p .1))) p
+same-named t (suc (suc zero)) a b a′ b′ e = let p : _≡_ {A = Place} (a, b) (a′, b′) = cc in ap (λ p. Entry.text (word t (p .0) (p .1))) p
+same-named t (suc (suc (suc zero))) a b a′ b′ e = cc
+same-named t (suc (suc (suc (suc zero)))) a b a′ b′ e = cc
+same-named t (suc (suc (suc (suc (suc zero))))) a b a′ b′ e = cc
+same-named t (suc (suc (suc (suc (suc (suc zero)))))) a b a′ b′ e = cc
+same-named t (suc (suc (suc (suc (suc (suc (suc zero))))))) a b a′ b′ e = cc
+same-named t (suc (suc (suc (suc (suc (suc (suc (suc zero)))))))) a b a′ b′ e = cc
+same-named t (suc (suc (suc (suc (suc (suc (suc (suc (suc k))))))))) a b a′ b′ e = refl
 
 tabulated-same : {X : Type 0} (n k : ℕ) (f g : ℕ → X) → ((i : ℕ) → i < n + k → f i ≡ g i) → tabulated n k f ≡ tabulated n k g
 unfolding tabulated
@@ -99,30 +88,35 @@ tabulated-same zero k f g h = refl
 tabulated-same (suc n) k f g h = λ i. h k (omega arith) i ∷ tabulated-same n (suc k) f g (λ j l. h j (omega arith)) i
 
 module _ (l l′ : L.List) (a : Agree l l′) (t : Bytes) where
-  rule-is : (i : ℕ) → i < l .count → EntryRule t i (kindOf (getD (l .kinds) i 0)) (getD (l .left) i 0) (getD (l .right) i 0) ≡ EntryRule t i (kindOf (getD (l′ .kinds) i 0)) (getD (l′ .left) i 0) (getD (l′ .right) i 0)
-  rule-is i h = same-rule t i (kindOf (getD (l .kinds) i 0)) (getD (l .left) i 0) (getD (l .right) i 0) (getD (l′ .left) i 0) (getD (l′ .right) i 0) (a .uses i h) ∙ ap (λ k. EntryRule t i (kindOf k) (getD (l′ .left) i 0) (getD (l′ .right) i 0)) (a .kinds i h)
-
   keeps-on : Keeps l t → Keeps l′ t
   keeps-on k = record {
     some-entry = subst (λ n. 1 ≤ n) (a .count) (k .some-entry);
     most = subst (λ n. n ≤ 32) (a .count) (k .most);
-    each = λ i h. let j : i < l .count = subst (λ n. i < n) (sym (a .count)) h in subst (λ (T : Type 0). T) (rule-is i j) (k .each i j);
+    each = λ i h.
+        let j : i < l .count = subst (λ n. i < n) (sym (a .count)) h in
+        record { known = subst (λ n. n ≤ 8) (a .kinds i j) (k .each i j .known); points = subst (Points (Inside t) i) (a .uses i j) (k .each i j .points) };
   }
 
   keeps-back : Keeps l′ t → Keeps l t
   keeps-back k = record {
     some-entry = subst (λ n. 1 ≤ n) (sym (a .count)) (k .some-entry);
     most = subst (λ n. n ≤ 32) (sym (a .count)) (k .most);
-    each = λ i h. subst (λ (T : Type 0). T) (sym (rule-is i h)) (k .each i (subst (λ n. i < n) (a .count) h));
+    each = λ i h.
+        let r : EntryRule t i (getD (l′ .kinds) i 0) (getD (l′ .left) i 0) (getD (l′ .right) i 0) = k .each i (subst (λ n. i < n) (a .count) h) in
+        record { known = subst (λ n. n ≤ 8) (sym (a .kinds i h)) (r .known); points = subst (Points (Inside t) i) (sym (a .uses i h)) (r .points) };
   }
+
+  entry-same : (i : ℕ) → i < l .count
+      → entryOf (word t) (getD (l .kinds) i 0) (getD (l .left) i 0) (getD (l .right) i 0) ≡ entryOf (word t) (getD (l′ .kinds) i 0) (getD (l′ .left) i 0) (getD (l′ .right) i 0)
+  entry-same i h =
+      ap (λ k. entryOf (word t) k (getD (l .left) i 0) (getD (l .right) i 0)) (a .kinds i h)
+      ∙ same-named t (getD (l′ .kinds) i 0) (getD (l .left) i 0) (getD (l .right) i 0) (getD (l′ .left) i 0) (getD (l′ .right) i 0) (ap (λ k. placed k (getD (l .left) i 0) (getD (l .right) i 0)) (sym (a .kinds i h)) ∙ a .uses i h)
 
   listed-same : listed l t ≡ listed l′ t
   unfolding listed
   listed-same =
-      tabulated-same (l .count) 0 _ _ (λ i h.
-      let j : i < l .count = omega arith in
-      same-entry t (kindOf (getD (l .kinds) i 0)) (getD (l .left) i 0) (getD (l .right) i 0) (getD (l′ .left) i 0) (getD (l′ .right) i 0) (a .uses i j) ∙ ap (λ k. entryOf t (kindOf k) (getD (l′ .left) i 0) (getD (l′ .right) i 0)) (a .kinds i j))
-      ∙ ap (λ n. tabulated n 0 (λ i. entryOf t (kindOf (getD (l′ .kinds) i 0)) (getD (l′ .left) i 0) (getD (l′ .right) i 0))) (a .count)
+      tabulated-same (l .count) 0 _ _ (λ i h. entry-same i (omega arith))
+      ∙ ap (λ n. tabulated n 0 (λ i. entryOf (word t) (getD (l′ .kinds) i 0) (getD (l′ .left) i 0) (getD (l′ .right) i 0))) (a .count)
 
   module _ (F : Fragment) (part number : ℕ) (work out : List ℕ) where
     laid-same : laid (call l t F part number) ≡ laid (call l′ t F part number)

@@ -7,7 +7,7 @@ use lib.ListN.{length, getD}
 use Rattle.meaning.specs.Bytes.{Bytes}
 use Rattle.meaning.specs.Fragment.{Fragment, Sound, rowCount, NoStandIn}
 use Rattle.question.specs.declared.List as L
-use Rattle.question.specs.Listed.{Kind, kindOf, Keeps}
+use Rattle.question.specs.Listed.{placed, Keeps}
 use Rattle.reply.specs.WellFormed.{WellFormed}
 use Rattle.depot.specs.Answer.{Call, call, laid, bytes, Answered}
 
@@ -42,23 +42,12 @@ NeverEight = (c : Call) (work out : List ℕ) (r size : ℕ) (w o : List ℕ) �
 abbrev pub LaidWellFormed : Type 0
 LaidWellFormed = (c : Call) → RulesKept c → c .number < 2 ^ 32 → length (laid c .steps) ≤ 4096 → WellFormed (laid c)
 
--- what an entry of a kind uses of its operands
-abbrev pub SameUse : Kind → ℕ → ℕ → ℕ → ℕ → Type 0
-SameUse Kind.self a b a′ b′ = Unit {0}
-SameUse Kind.label a b a′ b′ = (a ≡ a′) × (b ≡ b′)
-SameUse Kind.text a b a′ b′ = (a ≡ a′) × (b ≡ b′)
-SameUse Kind.child a b a′ b′ = a ≡ a′
-SameUse Kind.at a b a′ b′ = (a ≡ a′) × (b ≡ b′)
-SameUse Kind.lower a b a′ b′ = a ≡ a′
-SameUse Kind.or a b a′ b′ = (a ≡ a′) × (b ≡ b′)
-SameUse Kind.and a b a′ b′ = (a ≡ a′) × (b ≡ b′)
-SameUse Kind.not a b a′ b′ = a ≡ a′
-SameUse Kind.unknown a b a′ b′ = Unit {0}
-
+-- two lists agree in what they use: as many entries, of the same kinds, each with the same word's place or operands
 pub record Agree (l l′ : L.List) : Type 0 where
   pub count : l .count ≡ l′ .count
   pub kinds : (i : ℕ) → i < l .count → getD (l .kinds) i 0 ≡ getD (l′ .kinds) i 0
-  pub uses : (i : ℕ) → i < l .count → SameUse (kindOf (getD (l .kinds) i 0)) (getD (l .left) i 0) (getD (l .right) i 0) (getD (l′ .left) i 0) (getD (l′ .right) i 0)
+  pub uses : (i : ℕ) → i < l .count
+      → placed (getD (l .kinds) i 0) (getD (l .left) i 0) (getD (l .right) i 0) ≡ placed (getD (l′ .kinds) i 0) (getD (l′ .left) i 0) (getD (l′ .right) i 0)
 
 -- two lists that agree in what they use get the same answer and bytes
 abbrev pub UnusedIgnored : Type 0

@@ -15,7 +15,7 @@ use Rattle.meaning.proofs.Formula.{join, joins}
 use Rattle.meaning.specs.Fragment.{Fragment, Rows}
 use Rattle.meaning.specs.Run.{Vectors, Tables, upd, valueOf, visit, push, row, deliver, sweep}
 use Rattle.question.specs.declared.List as L
-use Rattle.question.specs.Listed.{Kind}
+use Rattle.question.specs.Listed.{Place}
 use Rattle.formula.specs.inner.Flat.{St, st, Got, across, downFrom, addF, joinF, notF, valueF, enterF, entryF, rowF, orInto, liftF, deliverF, stands}
 
 -- THE MARK STAYS
@@ -42,21 +42,20 @@ module _ (size : ℕ) where
   unfolding notF
   not-over a m n e = both Marked (eqb a 0) e (both Marked (eqb a 4096) e (add-over 2 a 0 m n e))
 
-  value-over : (at : ℕ) (q : Kind) (i j t : ℕ) (m : List ℕ) (n : ℕ) → n ≡ 4097 → valueF size at q i j t m n .steps ≡ 4097
-  value-over at Kind.self i j t m n e = e
-  value-over at Kind.label i j t m n e = e
-  value-over at Kind.text i j t m n e = e
-  value-over at Kind.child i j t m n e = e
-  value-over at Kind.at i j t m n e = join-over 0 _ _ m n e
-  value-over at Kind.lower i j t m n e = e
-  value-over at Kind.or i j t m n e = join-over 1 _ _ m n e
-  value-over at Kind.and i j t m n e = join-over 0 _ _ m n e
-  value-over at Kind.not i j t m n e = not-over _ m n e
-  value-over at Kind.unknown i j t m n e = e
+  value-over : (at : ℕ) (x : Entry Place) (t : ℕ) (m : List ℕ) (n : ℕ) → n ≡ 4097 → valueF size at x t m n .steps ≡ 4097
+  value-over at Entry.self t m n e = e
+  value-over at (Entry.label w) t m n e = e
+  value-over at (Entry.text w) t m n e = e
+  value-over at (Entry.child i) t m n e = e
+  value-over at (Entry.at i j) t m n e = join-over 0 _ _ m n e
+  value-over at (Entry.lower i) t m n e = e
+  value-over at (Entry.or i j) t m n e = join-over 1 _ _ m n e
+  value-over at (Entry.and i j) t m n e = join-over 0 _ _ m n e
+  value-over at (Entry.not i) t m n e = not-over _ m n e
 
-  pub enter-over : (at e : ℕ) (q : Kind) (i j t : ℕ) (s : St) → s .steps ≡ 4097 → enterF size at e q i j t s .steps ≡ 4097
+  pub enter-over : (at e : ℕ) (x : Entry Place) (t : ℕ) (s : St) → s .steps ≡ 4097 → enterF size at e x t s .steps ≡ 4097
   unfolding enterF
-  enter-over at e q i j t s h = join-over 1 _ _ _ _ (value-over at q i j t (s .mem) (s .steps) h)
+  enter-over at e x t s h = join-over 1 _ _ _ _ (value-over at x t (s .mem) (s .steps) h)
 
   pub or-over : (i j : ℕ) (s : St) → s .steps ≡ 4097 → orInto size i j s .steps ≡ 4097
   unfolding orInto
@@ -79,7 +78,7 @@ down-over f g (suc k) s h = down-over f g k (f k s) (g k s h)
 module _ (l : L.List) (t : Bytes) (F : Fragment) (size : ℕ) where
   pub entry-over : (at k e : ℕ) (s : St) → s .steps ≡ 4097 → entryF l t F size at k e s .steps ≡ 4097
   unfolding entryF
-  entry-over at k e s h = enter-over size at e _ _ _ _ s h
+  entry-over at k e s h = enter-over size at e _ _ s h
 
   pub row-over : (k place : ℕ) (s : St) → s .steps ≡ 4097 → rowF l t F size k place s .steps ≡ 4097
   unfolding rowF

@@ -16,7 +16,7 @@ use Rattle.meaning.specs.Run.{Vectors, upd, literal, valueOf, visit}
 use Rattle.meaning.specs.Reply.{tabulated}
 use Rattle.meaning.proofs.Numbers.{upd-same, upd-other}
 use Rattle.question.specs.declared.List as L
-use Rattle.question.specs.Listed.{Kind, kindOf, Keeps, entryOf}
+use Rattle.question.specs.Listed.{entryOf, placed, Keeps}
 use Rattle.writing.specs.inner.Codes.{code}
 use Rattle.formula.specs.inner.Flat.{St, st, Got, across, joinF, truth, testF, Reads, valueF, enterF, entryF, varF}
 use Rattle.formula.proofs.KindTests.{rule-reads}
@@ -75,18 +75,19 @@ module _ (t : Bytes) (F : Fragment) (k : ℕ) (size at n : ℕ) (fits : at + n �
   txt w = textIs w (rowsOf F .text k)
 
   module _ (e : ℕ) (m : List ℕ) (ks : ℕ) (s : List Step) (v c d : ℕ → Ref) (inside : e < n) (counts : ks ≡ length s) (most : length s ≤ 4096) (h : RowHeld size at n e m s v c d) where
-    value-sim : (q : Kind) (a b : ℕ) → Reads e q a b
-        → Sim (valueF size at q a b (testF t F k q a b) m ks .steps) (valueOf formula lab txt (entryOf t q a b) s v c d .0) (Gave size m (valueF size at q a b (testF t F k q a b) m ks) (valueOf formula lab txt (entryOf t q a b) s v c d .0) (valueOf formula lab txt (entryOf t q a b) s v c d .1))
-    value-sim Kind.self a b r = keep size m ks s counts most (h .held) Ref.high refl
-    value-sim Kind.label a b r = keep size m ks s counts most (h .held) (literal formula (lab (word t a b))) (literal-code (lab (word t a b)))
-    value-sim Kind.text a b r = keep size m ks s counts most (h .held) (literal formula (txt (word t a b))) (literal-code (txt (word t a b)))
-    value-sim Kind.child a b r = keep size m ks s counts most (h .held) (c a) (h .child a (omega arith))
-    value-sim Kind.at a b r = join-sim size m ks s counts most (h .held) false (v a) (v b) (h .here a (r .0)) (h .here b (r .1))
-    value-sim Kind.lower a b r = keep size m ks s counts most (h .held) (d a) (h .lower a (omega arith))
-    value-sim Kind.or a b r = join-sim size m ks s counts most (h .held) true (v a) (v b) (h .here a (r .0)) (h .here b (r .1))
-    value-sim Kind.and a b r = join-sim size m ks s counts most (h .held) false (v a) (v b) (h .here a (r .0)) (h .here b (r .1))
-    value-sim Kind.not a b r = not-sim size m ks s counts most (h .held) (v a) (h .here a r)
-    value-sim Kind.unknown a b r = absurd r
+    value-sim : (q a b : ℕ) → Reads e q a b
+        → Sim (valueF size at (placed q a b) (testF F k (entryOf (word t) q a b)) m ks .steps) (valueOf formula lab txt (entryOf (word t) q a b) s v c d .0) (Gave size m (valueF size at (placed q a b) (testF F k (entryOf (word t) q a b)) m ks) (valueOf formula lab txt (entryOf (word t) q a b) s v c d .0) (valueOf formula lab txt (entryOf (word t) q a b) s v c d .1))
+    unfolding entryOf
+    value-sim zero a b r = keep size m ks s counts most (h .held) Ref.high refl
+    value-sim (suc zero) a b r = keep size m ks s counts most (h .held) (literal formula (lab (word t a b))) (literal-code (lab (word t a b)))
+    value-sim (suc (suc zero)) a b r = keep size m ks s counts most (h .held) (literal formula (txt (word t a b))) (literal-code (txt (word t a b)))
+    value-sim (suc (suc (suc zero))) a b r = keep size m ks s counts most (h .held) (c a) (h .child a (omega (arith, r .points)))
+    value-sim (suc (suc (suc (suc zero)))) a b r = join-sim size m ks s counts most (h .held) false (v a) (v b) (h .here a (r .points .0)) (h .here b (r .points .1))
+    value-sim (suc (suc (suc (suc (suc zero))))) a b r = keep size m ks s counts most (h .held) (d a) (h .lower a (omega (arith, r .points)))
+    value-sim (suc (suc (suc (suc (suc (suc zero)))))) a b r = join-sim size m ks s counts most (h .held) true (v a) (v b) (h .here a (r .points .0)) (h .here b (r .points .1))
+    value-sim (suc (suc (suc (suc (suc (suc (suc zero))))))) a b r = join-sim size m ks s counts most (h .held) false (v a) (v b) (h .here a (r .points .0)) (h .here b (r .points .1))
+    value-sim (suc (suc (suc (suc (suc (suc (suc (suc zero)))))))) a b r = not-sim size m ks s counts most (h .held) (v a) (h .here a (r .points))
+    value-sim (suc (suc (suc (suc (suc (suc (suc (suc (suc q))))))))) a b r = absurd (omega (arith, r .known))
 
     -- V and D are stored
     stored : (g j : Got) (s₁ s₂ : List Step) (x y : Ref) → Gave size m g s₁ x → Gave size (g .mem) j s₂ y
@@ -120,17 +121,17 @@ module _ (t : Bytes) (F : Fragment) (k : ℕ) (size at n : ℕ) (fits : at + n �
         off i l u w = elsewhere (j .mem) p q (g .code) (j .code) apart room i u w ∙ b .same i l ∙ a .same i l
 
     -- V by its kind, then D becomes V or D
-    enter-sim : (q : Kind) (a b : ℕ) → Reads e q a b
-        → Sim (enterF size at e q a b (testF t F k q a b) (st m ks) .steps)
-        (join true (valueOf formula lab txt (entryOf t q a b) s v c d .0) (valueOf formula lab txt (entryOf t q a b) s v c d .1) (d e) .0)
-        (Entered size at n e m (enterF size at e q a b (testF t F k q a b) (st m ks) .mem)
-        (join true (valueOf formula lab txt (entryOf t q a b) s v c d .0) (valueOf formula lab txt (entryOf t q a b) s v c d .1) (d e) .0)
-        (upd v e (valueOf formula lab txt (entryOf t q a b) s v c d .1)) c
-        (upd d e (join true (valueOf formula lab txt (entryOf t q a b) s v c d .0) (valueOf formula lab txt (entryOf t q a b) s v c d .1) (d e) .1)))
+    enter-sim : (q a b : ℕ) → Reads e q a b
+        → Sim (enterF size at e (placed q a b) (testF F k (entryOf (word t) q a b)) (st m ks) .steps)
+        (join true (valueOf formula lab txt (entryOf (word t) q a b) s v c d .0) (valueOf formula lab txt (entryOf (word t) q a b) s v c d .1) (d e) .0)
+        (Entered size at n e m (enterF size at e (placed q a b) (testF F k (entryOf (word t) q a b)) (st m ks) .mem)
+        (join true (valueOf formula lab txt (entryOf (word t) q a b) s v c d .0) (valueOf formula lab txt (entryOf (word t) q a b) s v c d .1) (d e) .0)
+        (upd v e (valueOf formula lab txt (entryOf (word t) q a b) s v c d .1)) c
+        (upd d e (join true (valueOf formula lab txt (entryOf (word t) q a b) s v c d .0) (valueOf formula lab txt (entryOf (word t) q a b) s v c d .1) (d e) .1)))
     unfolding enterF
     enter-sim q a b r =
-        let g : Got = valueF size at q a b (testF t F k q a b) m ks in
-        let x = valueOf formula lab txt (entryOf t q a b) s v c d in
+        let g : Got = valueF size at (placed q a b) (testF F k (entryOf (word t) q a b)) m ks in
+        let x = valueOf formula lab txt (entryOf (word t) q a b) s v c d in
         after (value-sim q a b r)
         (λ u w y. mapped (stored g (joinF size 1 (g .code) (getD (g .mem) (2 * size + at + e) 0) (g .mem) (g .steps)) (x .0) _ (x .1) _ y)
         (join-sim size (g .mem) (g .steps) (x .0) u w (y .held) true (x .1) (d e) (y .coded) (y .same (2 * size + at + e) (omega arith) ∙ h .lower e inside)))
@@ -139,17 +140,16 @@ module _ (t : Bytes) (F : Fragment) (k : ℕ) (size at n : ℕ) (fits : at + n �
   -- all entries
   module _ (l : L.List) (keeps : Keeps l t) (all : l .count ≡ n) (c : ℕ → Ref) where
     abbrev entryAt : ℕ → Entry Bytes
-    entryAt i = entryOf t (kindOf (getD (l .kinds) i 0)) (getD (l .left) i 0) (getD (l .right) i 0)
+    entryAt i = entryOf (word t) (getD (l .kinds) i 0) (getD (l .left) i 0) (getD (l .right) i 0)
 
     pub visit-sim : (r i : ℕ) → r + i ≡ n → (z : St) (s : List Step) (v d : ℕ → Ref) → z .steps ≡ length s → length s ≤ 4096 → RowHeld size at n i (z .mem) s v c d
         → Sim (across (entryF l t F size at k) i r z .steps) (visit formula lab txt c (tabulated r i entryAt) i s v d .st) (Visited size at n (z .mem) (across (entryF l t F size at k) i r z .mem) (visit formula lab txt c (tabulated r i entryAt) i s v d))
     unfolding across tabulated visit entryF
     visit-sim zero i sum z s v d counts most h = live counts most (record { held = h .held; v = λ e w. h .here e (omega arith); d = h .lower; same = λ j a b. refl })
     visit-sim (suc r) i sum z s v d counts most h =
-        let q : Kind = kindOf (getD (l .kinds) i 0) in
         let x = valueOf formula lab txt (entryAt i) s v c d in
         let y = join true (x .0) (x .1) (d i) in
-        after (enter-sim i (z .mem) (z .steps) s v c d (omega arith) counts most h q (getD (l .left) i 0) (getD (l .right) i 0) (rule-reads t i q (getD (l .left) i 0) (getD (l .right) i 0) (keeps .each i (omega arith))))
+        after (enter-sim i (z .mem) (z .steps) s v c d (omega arith) counts most h (getD (l .kinds) i 0) (getD (l .left) i 0) (getD (l .right) i 0) (rule-reads (keeps .each i (omega arith))))
         (λ a b E. mapped (λ o. record { held = o .held; v = o .v; d = o .d; same = λ j u w. o .same j u w ∙ E .same j u w })
         (visit-sim r (suc i) (omega arith) (entryF l t F size at k i z) (y .0) (upd v i (x .1)) (upd d i (y .1)) a b (E .row)))
         (λ a. across-over (entryF l t F size at k) (λ i s h. entry-over l t F size at k i s h) (suc i) r (entryF l t F size at k i z) a)

@@ -11,7 +11,7 @@ ghost use lib.ListN.{length, replicate};
 ghost use Rattle.meaning.specs.Bytes.{word, sameBytes, labelIs, textIs};
 ghost use Rattle.meaning.specs.Fragment.{RealRow, rowsOf};
 ghost use Rattle.meaning.specs.Reply.{laidRun};
-ghost use Rattle.question.specs.Listed.{kindOf, EntryRule, Keeps, listed};
+ghost use Rattle.question.specs.Listed.{entryOf, placed, EntryRule, Keeps, listed};
 ghost use Rattle.formula.specs.inner.Made.{Ready, Made};
 ghost use Rattle.fragment.specs.Lent.{lent};
 ghost use Rattle.formula.specs.inner.Flat.{st, Room, Ruled, Gives, Does, Reads, addF, joinF, notF, truth, testF, valueF, enterF, visitF, stands, standF, rowF, orInto, liftF, pushF, deliverF, sweepF};
@@ -136,8 +136,8 @@ fn constant(b: bool) -> u16
 fn tested(text: &[u8], rows: &[u32], pool: &[u8], k: usize, kind: u8, a: usize, b: usize) -> u16
     requires { ⌜ k * 6 + 6 ≤ length (now rows) ⌝ }
     requires { ⌜ RealRow (lent (now rows) (now pool)) k ⌝ }
-    requires { ⌜ ((e : ℕ) × EntryRule (now text) e (kindOf kind) a b) ⌝ }
-    ensures { λ r. ⌜ r ≡ testF (now (text .entry)) (lent (now (rows .entry)) (now (pool .entry))) k (kindOf kind) a b ⌝ }
+    requires { ⌜ ((e : ℕ) × EntryRule (now text) e kind a b) ⌝ }
+    ensures { λ r. ⌜ r ≡ testF (lent (now (rows .entry)) (now (pool .entry))) k (entryOf (word (now (text .entry))) kind a b) ⌝ }
 {
     let at = k * 6;
     if kind == 1 {
@@ -167,8 +167,8 @@ fn value(
     told: u16,
 ) -> Coded
     requires { ⌜ Room size (now work) steps ⌝ }
-    requires { ⌜ ((e : ℕ) × (at + e ≤ size) × Reads e (kindOf kind) i j) ⌝ }
-    ensures { λ r. ⌜ Gives (now (work .exit)) (r .steps) (r .code) (valueF size at (kindOf kind) i j told (now (work .entry)) steps) ⌝ }
+    requires { ⌜ ((e : ℕ) × (at + e ≤ size) × Reads e kind i j) ⌝ }
+    ensures { λ r. ⌜ Gives (now (work .exit)) (r .steps) (r .code) (valueF size at (placed kind i j) told (now (work .entry)) steps) ⌝ }
 {
     if kind < 3 {
         return Coded { code: told, steps };
@@ -208,8 +208,8 @@ fn entered(
 ) -> usize
     requires { ⌜ Room size (now work) steps ⌝ }
     requires { ⌜ at + e < size ⌝ }
-    requires { ⌜ Reads e (kindOf kind) i j ⌝ }
-    ensures { λ r. ⌜ Does (now (work .exit)) r (enterF size at e (kindOf kind) i j told (st (now (work .entry)) steps)) ⌝ }
+    requires { ⌜ Reads e kind i j ⌝ }
+    ensures { λ r. ⌜ Does (now (work .exit)) r (enterF size at e (placed kind i j) told (st (now (work .entry)) steps)) ⌝ }
 {
     let v = value(work, size, steps, at, kind, i, j, told);
     let lower = work[2 * size + at + e];

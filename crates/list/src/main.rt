@@ -40,7 +40,7 @@ fn answer(text: &[u8]) {
             b'e',
             b'd',
             b' ',
-            48 + answer.refusal % 10,
+            48 + (answer.refusal % 10) as u8,
             b'\n',
         ],
     ) {
@@ -48,14 +48,14 @@ fn answer(text: &[u8]) {
     }
 }
 
-// A listing takes at most 2,400 bytes, and the reader's lists keep their rules: there is always one to print.
+// No listing has over 2,369 bytes, and the reader's lists keep their rules: there is always one to print.
 fn print_list(list: List, text: &[u8]) {
-    let mut page = [0u8; 2400];
-    let shown = question_listing(list, text, &mut page);
-    if shown.length > 2400 {
+    let mut page = [0u8; 2369];
+    let length = question_listing(list, text, &mut page);
+    if length > 2369 {
         return;
     }
-    let size = io::count(shown.length as isize, &page);
+    let size = io::count(length as isize, &page);
     if !io::write_all(1, &page[..size]) {
         unwritten();
     }

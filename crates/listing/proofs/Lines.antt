@@ -1,168 +1,169 @@
--- The parts of a line, by the tests that the code makes of an entry's kind; and their sizes.
-use Prim.Native.Nat.{ℕ, zero, suc, _+_, _-_, _*_, _≤_, _<_, min}
+-- The lines of a list: what is left of them while they are put on a page, and how long they are at most.
+use Prim.Native.Nat.{ℕ, zero, suc, _+_, _-_, _*_, _≤_, _<_}
 use native.Mathlib.Omega.{arith}
-use native.Mathlib.Nat.{add-zero}
 use native.Mathlib.Decide.{decLt}
 use mathlib.Core.Path.{_≡_, refl, sym, ap, _∙_, subst}
-use mathlib.Core.Logic.{_⊎_, inl, inr}
-use mathlib.Core.List.{List, [], _∷_, _++_, append-nil}
+use mathlib.Core.List.{List, [], _∷_, _++_, append-assoc, append-nil}
 use lib.ListN.{length, getD, take, drop, length-append, length-take}
+use lib.Seq.{take-length}
 use Rattle.meaning.specs.Bytes.{Bytes, ascii, word}
+use Rattle.meaning.specs.Entry.{Entry, Points}
+use Rattle.meaning.specs.Reply.{tabulated}
 use Rattle.question.specs.declared.List as L
-use lib.Seq.{length-front, length-take-le}
-use Rattle.listing.specs.declared.Shown.{Shown}
-use Rattle.listing.specs.declared.Page.{Page}
-use Rattle.question.specs.Listed.{Kind, kindOf, EntryRule, Keeps}
-use Rattle.listing.specs.Listing.{decimal, kindWord, operands, line, lines, listing, Lists}
-use Rattle.listing.specs.inner.Page.{Blank, Puts, Full}
-use Rattle.listing.specs.Promise.{OneListing}
-use Rattle.question.proofs.Codes.{word-kind, no-kind, Two, two-kind}
-use Rattle.listing.proofs.Pages.{puts-then, puts-cast, decimal-size}
+use Rattle.question.specs.Listed.{Inside, entryOf, placed, EntryRule, Keeps, listed}
+use Rattle.question.proofs.Listed.{listed-length}
+use Rattle.listing.specs.Listing.{decimal, shown, line, lines, listing, listingOf, Lists}
+use Rattle.listing.specs.inner.Page.{Puts}
+use Rattle.listing.specs.Promise.{OneListing, MostListing}
+use Rattle.listing.proofs.Pages.{puts-then, puts-cast, one-digit, two-digits, decimal-size}
 
--- KINDS
-pub known : (t : Bytes) (i k a b : ℕ) → EntryRule t i (kindOf k) a b → k ≤ 8
-known t i k a b r = elim (decLt 8 k) [ yes h ↦ absurd (subst (λ q. EntryRule t i q a b) (no-kind k h) r) | no h ↦ omega arith ]
+-- AN ENTRY of a kind that is known by a test
+pub points-at : {t : Bytes} {i k a b : ℕ} (m : ℕ) → k ≡ m → EntryRule t i k a b → Points (Inside t) i (placed m a b)
+points-at {t} {i} {k} {a} {b} m e r = subst (λ k. EntryRule t i k a b) e r .points
 
-pub last-kind : (k : ℕ) → k ≤ 8 → (k ≡ 0 → ⊥) → (k ≡ 1 → ⊥) → (k ≡ 2 → ⊥) → (k ≡ 3 → ⊥) → (k ≡ 4 → ⊥) → (k ≡ 5 → ⊥) → (k ≡ 6 → ⊥) → (k ≡ 7 → ⊥) → k ≡ 8
-last-kind zero h a b c d e f g i = absurd (a refl)
-last-kind (suc zero) h a b c d e f g i = absurd (b refl)
-last-kind (suc (suc zero)) h a b c d e f g i = absurd (c refl)
-last-kind (suc (suc (suc zero))) h a b c d e f g i = absurd (d refl)
-last-kind (suc (suc (suc (suc zero)))) h a b c d e f g i = absurd (e refl)
-last-kind (suc (suc (suc (suc (suc zero))))) h a b c d e f g i = absurd (f refl)
-last-kind (suc (suc (suc (suc (suc (suc zero)))))) h a b c d e f g i = absurd (g refl)
-last-kind (suc (suc (suc (suc (suc (suc (suc zero))))))) h a b c d e f g i = absurd (i refl)
-last-kind (suc (suc (suc (suc (suc (suc (suc (suc k)))))))) h a b c d e f g i = omega arith
+pub shown-at : (t : Bytes) (a b m : ℕ) {k : ℕ} → k ≡ m → shown (entryOf (word t) m a b) ≡ shown (entryOf (word t) k a b)
+shown-at t a b m e = ap (λ k. shown (entryOf (word t) k a b)) (sym e)
 
--- OPERANDS
-module _ (t : Bytes) (i k a b : ℕ) where
-  pub word-inside : (k ≡ 0 → ⊥) → k < 3 → EntryRule t i (kindOf k) a b → (b ≤ 64) × (a + b ≤ length t)
-  word-inside z h r = go (word-kind k z h)
-    where
-      go : (kindOf k ≡ Kind.label) ⊎ (kindOf k ≡ Kind.text) → (b ≤ 64) × (a + b ≤ length t)
-      go (inl e) = subst (λ q. EntryRule t i q a b) e r
-      go (inr e) = subst (λ q. EntryRule t i q a b) e r
+pub room-at : (t : Bytes) (a b m place : ℕ) {k n : ℕ} → k ≡ m → place + length (shown (entryOf (word t) k a b)) ≤ n → place + length (shown (entryOf (word t) m a b)) ≤ n
+room-at t a b m place e h = omega (arith, ap length (shown-at t a b m e))
 
-  pub word-operands : (k ≡ 0 → ⊥) → k < 3 → ascii " " ++ word t a b ≡ operands t (kindOf k) a b
-  unfolding operands
-  word-operands z h = go (word-kind k z h)
-    where
-      go : (kindOf k ≡ Kind.label) ⊎ (kindOf k ≡ Kind.text) → ascii " " ++ word t a b ≡ operands t (kindOf k) a b
-      go (inl e) = ap (λ q. operands t q a b) (sym e)
-      go (inr e) = ap (λ q. operands t q a b) (sym e)
+above-three : {k : ℕ} → (k ≡ 0 → ⊥) → (k ≡ 1 → ⊥) → (k ≡ 2 → ⊥) → (k ≡ 3 → ⊥) → 3 < k
+above-three a b c d = omega arith
 
-  two-of : {q : Kind} → Two q → EntryRule t i q a b → (a < i) × (b < i)
-  two-of Two.at r = r
-  two-of Two.or r = r
-  two-of Two.and r = r
+no-other : {k : ℕ} → 3 < k → k ≤ 8 → (k ≡ 4 → ⊥) → (k ≡ 5 → ⊥) → (k ≡ 6 → ⊥) → (k ≡ 7 → ⊥) → k ≡ 8
+no-other l m e f g h = omega arith
 
-  two-text : {q : Kind} → Two q → (ascii " " ++ decimal a) ++ (ascii " " ++ decimal b) ≡ operands t q a b
-  unfolding operands
-  two-text Two.at = refl
-  two-text Two.or = refl
-  two-text Two.and = refl
-
-  module _ (h : 3 ≤ k) (c : k ≡ 3 → ⊥) (d : k ≡ 5 → ⊥) (e : k ≡ 8 → ⊥) (r : EntryRule t i (kindOf k) a b) where
-    pub right-before : b < i
-    right-before = two-of (two-kind k h (known t i k a b r) c d e) r .1
-
-    pub two-operands : (ascii " " ++ decimal a) ++ (ascii " " ++ decimal b) ≡ operands t (kindOf k) a b
-    two-operands = two-text (two-kind k h (known t i k a b r) c d e)
-
-pub left-before : (t : Bytes) (i k a b : ℕ) → 3 ≤ k → EntryRule t i (kindOf k) a b → a < i
-unfolding kindOf
-left-before t i zero a b h r = absurd (omega arith)
-left-before t i (suc zero) a b h r = absurd (omega arith)
-left-before t i (suc (suc zero)) a b h r = absurd (omega arith)
-left-before t i (suc (suc (suc zero))) a b h r = r
-left-before t i (suc (suc (suc (suc zero)))) a b h r = r .0
-left-before t i (suc (suc (suc (suc (suc zero))))) a b h r = r
-left-before t i (suc (suc (suc (suc (suc (suc zero)))))) a b h r = r .0
-left-before t i (suc (suc (suc (suc (suc (suc (suc zero))))))) a b h r = r .0
-left-before t i (suc (suc (suc (suc (suc (suc (suc (suc zero)))))))) a b h r = r
-left-before t i (suc (suc (suc (suc (suc (suc (suc (suc (suc k))))))))) a b h r = absurd r
-
--- a rule for a lower entry is one for a higher
-pub rule-more : (t : Bytes) (i j : ℕ) (q : Kind) (a b : ℕ) → i ≤ j → EntryRule t i q a b → EntryRule t j q a b
-rule-more t i j Kind.self a b h r = tt
-rule-more t i j Kind.label a b h r = r
-rule-more t i j Kind.text a b h r = r
-rule-more t i j Kind.child a b h r = omega arith
-rule-more t i j Kind.at a b h r = (omega (arith, r .0), omega (arith, r .1))
-rule-more t i j Kind.lower a b h r = omega arith
-rule-more t i j Kind.or a b h r = (omega (arith, r .0), omega (arith, r .1))
-rule-more t i j Kind.and a b h r = (omega (arith, r .0), omega (arith, r .1))
-rule-more t i j Kind.not a b h r = omega arith
-rule-more t i j Kind.unknown a b h r = r
-
--- SIZES
-pub kind-size : (q : Kind) → length (kindWord q) ≤ 5
-unfolding kindWord
-kind-size Kind.self = omega arith
-kind-size Kind.label = omega arith
-kind-size Kind.text = omega arith
-kind-size Kind.child = omega arith
-kind-size Kind.at = omega arith
-kind-size Kind.lower = omega arith
-kind-size Kind.or = omega arith
-kind-size Kind.and = omega arith
-kind-size Kind.not = omega arith
-kind-size Kind.unknown = omega arith
-
-pub word-size : (t : Bytes) (a b : ℕ) → length (word t a b) ≤ b
-word-size t a b = omega (arith, length-take b (drop a t))
-
-pub operands-size : (t : Bytes) (i : ℕ) (q : Kind) (a b : ℕ) → EntryRule t i q a b → length (operands t q a b) ≤ 65
-unfolding operands
-operands-size t i Kind.self a b r = omega arith
-operands-size t i Kind.label a b r = omega (arith, word-size t a b, r .0)
-operands-size t i Kind.text a b r = omega (arith, word-size t a b, r .0)
-operands-size t i Kind.child a b r = omega (arith, decimal-size a)
-operands-size t i Kind.at a b r = omega (arith, decimal-size a, decimal-size b, length-append (decimal a) (32 ∷ decimal b))
-operands-size t i Kind.lower a b r = omega (arith, decimal-size a)
-operands-size t i Kind.or a b r = omega (arith, decimal-size a, decimal-size b, length-append (decimal a) (32 ∷ decimal b))
-operands-size t i Kind.and a b r = omega (arith, decimal-size a, decimal-size b, length-append (decimal a) (32 ∷ decimal b))
-operands-size t i Kind.not a b r = omega (arith, decimal-size a)
-operands-size t i Kind.unknown a b r = absurd r
+pub last-kind : {k : ℕ} → k ≤ 8 → (k ≡ 0 → ⊥) → (k ≡ 1 → ⊥) → (k ≡ 2 → ⊥) → (k ≡ 3 → ⊥) → (k ≡ 4 → ⊥) → (k ≡ 5 → ⊥) → (k ≡ 6 → ⊥) → (k ≡ 7 → ⊥) → k ≡ 8
+last-kind m a b c d e f g h = no-other (above-three a b c d) m e f g h
 
 -- A LINE, from its parts
-pub puts-line : (t : Bytes) (i : ℕ) (q : Kind) (a b : ℕ) {p n s k o r : Page} → EntryRule t i q a b → Puts p n (decimal i) → Puts n s (32 ∷ []) → Puts s k (kindWord q) → Puts k o (operands t q a b) → Puts o r (10 ∷ []) → Puts p r (line t i q a b) × (r .size ≤ p .size + 74)
+pub line-length : (i : ℕ) (e : Entry Bytes) → length (line i e) ≡ length (decimal i) + (length (shown e) + 2)
 unfolding line
-puts-line t i q a b e v w x y z = (puts-then v (puts-then w (puts-then x (puts-then y z))), omega (arith, v .size, w .size, x .size, y .size, z .size, decimal-size i, kind-size q, operands-size t i q a b e))
+line-length i e = omega (arith, length-append (decimal i) (ascii " " ++ (shown e ++ ascii "\n")), length-append (shown e) (ascii "\n"))
 
--- ALL LINES
-pub puts-lines : (l : L.List) (t : Bytes) (i : ℕ) {p q r : Page} → Puts p q (lines l t i) → Puts q r (line t i (kindOf (getD (l .kinds) i 0)) (getD (l .left) i 0) (getD (l .right) i 0)) → Puts p r (lines l t (i + 1))
-unfolding lines
-puts-lines l t i {p} {q} {r} x y = let e : suc i ≡ i + 1 = omega arith in subst (λ n. Puts p r (lines l t n)) e (puts-then x y)
+pub puts-line : {p q r s o : Bytes} {a b c d z : ℕ} (i : ℕ) (e : Entry Bytes) → Puts p q a b (decimal i) → Puts q r b c (ascii " ") → Puts r s c d (shown e) → Puts s o d z (ascii "\n") → Puts p o a z (line i e)
+unfolding line
+puts-line i e v w x y = puts-then v (puts-then w (puts-then x y))
 
--- THE WHOLE PAGE
-pub puts-page : (l : L.List) (t : Bytes) {b f n h r : Page} → Blank b → Puts b f (ascii "entries ") → Puts f n (decimal (l .count)) → Puts n h (10 ∷ []) → Puts h r (lines l t (l .count))
-    → r .size ≤ 2400 → Full (listing l t) r
-unfolding listing
-puts-page l t {b} {f} {n} {h} {r} z x y v w k =
-    let a = puts-then (puts-then x (puts-then y v)) w in
-    record { holds = a .holds ∙ ap (λ k. take k (b .bytes) ++ listing l t) (z .empty); size = omega (arith, a .size, z .empty); room = (k, omega (arith, a .full)) }
+-- WHAT IS LEFT of a list's lines from entry i on
+abbrev entryIn : L.List → Bytes → ℕ → Entry Bytes
+entryIn l t i = entryOf (word t) (getD (l .kinds) i 0) (getD (l .left) i 0) (getD (l .right) i 0)
+
+abbrev left : L.List → Bytes → ℕ → Bytes
+left l t i = lines i (tabulated (l .count - i) i (entryIn l t))
+
+-- the page holds a list's lines but for these, behind what it held before
+pub record Left (l : L.List) (t before after : Bytes) (start place i : ℕ) : Type 0 where
+  pub holds : take place after ++ left l t i ≡ take start before ++ lines 0 (listed l t)
+  pub moves : place + length (left l t i) ≡ start + length (lines 0 (listed l t))
+
+module _ (l : L.List) (t before : Bytes) (start : ℕ) where
+  pub left-first : Left l t before before start start 0
+  unfolding listed
+  left-first =
+      let e : l .count - 0 ≡ l .count = omega arith in
+      let all : left l t 0 ≡ lines 0 (listed l t) = ap (λ n. lines 0 (tabulated n 0 (entryIn l t))) e in
+      record { holds = ap (λ w. take start before ++ w) all; moves = ap (λ w. start + length w) all }
+
+  left-more : (i : ℕ) → i < l .count → left l t i ≡ line i (entryIn l t i) ++ left l t (i + 1)
+  unfolding lines tabulated
+  left-more i h =
+      let e : l .count - i ≡ suc (l .count - suc i) = omega arith in
+      let s : suc i ≡ i + 1 = omega arith in
+      ap (λ n. lines i (tabulated n i (entryIn l t))) e ∙ ap (λ j. line i (entryIn l t i) ++ left l t j) s
+
+  pub left-room : {after : Bytes} {place i : ℕ} → i < l .count → Left l t before after start place i → start + length (lines 0 (listed l t)) ≤ length after → place + length (line i (entryIn l t i)) ≤ length after
+  left-room {after} {place} {i} h x room = omega (arith, x .moves, ap length (left-more i h), length-append (line i (entryIn l t i)) (left l t (i + 1)))
+
+  pub left-next : {page after : Bytes} {place next i : ℕ} → i < l .count → Left l t before page start place i → Puts page after place next (line i (entryIn l t i)) → Left l t before after start next (i + 1)
+  left-next {page} {after} {place} {next} {i} h x y = record {
+    holds = ap (λ w. w ++ left l t (i + 1)) (y .holds) ∙ append-assoc (take place page) (line i (entryIn l t i)) (left l t (i + 1)) ∙ ap (λ w. take place page ++ w) (sym (left-more i h)) ∙ x .holds;
+    moves = omega (arith, x .moves, y .moves, ap length (left-more i h), length-append (line i (entryIn l t i)) (left l t (i + 1)));
+  }
+
+  left-none : (i : ℕ) → l .count ≤ i → left l t i ≡ []
+  unfolding lines tabulated
+  left-none i h = let e : l .count - i ≡ 0 = omega arith in rw e
+
+  pub left-end : {after : Bytes} {place i : ℕ} → l .count ≤ i → Left l t before after start place i → Puts before after start place (lines 0 (listed l t))
+  left-end {after} {place} {i} h x = record {
+    holds = sym (append-nil (take place after)) ∙ ap (λ w. take place after ++ w) (sym (left-none i h)) ∙ x .holds;
+    moves = omega (arith, x .moves, ap length (left-none i h));
+  }
+
+-- SIZES: a line has 73 bytes at most, and a byte more from entry 10 on
+word-size : (t : Bytes) (a b : ℕ) → length (word t a b) ≤ b
+word-size t a b = omega (arith, length-take b (drop a t))
+
+two-size : (a b : ℕ) → length (decimal a ++ (ascii " " ++ decimal b)) ≤ 5
+two-size a b = omega (arith, length-append (decimal a) (ascii " " ++ decimal b), decimal-size a, decimal-size b)
+
+decimal-step : (i : ℕ) → length (decimal i) + (i - 10) ≤ 1 + (suc i - 10)
+decimal-step i = elim (decLt i 10) [ yes h ↦ omega (arith, ap length (one-digit i h)) | no h ↦ omega (arith, decimal-size i) ]
+
+shown-size : (t : Bytes) (i k a b : ℕ) → EntryRule t i k a b → length (shown (entryOf (word t) k a b)) ≤ 70
+unfolding shown entryOf
+shown-size t i zero a b r = omega arith
+shown-size t i (suc zero) a b r = omega (arith, word-size t a b, r .points .0)
+shown-size t i (suc (suc zero)) a b r = omega (arith, word-size t a b, r .points .0)
+shown-size t i (suc (suc (suc zero))) a b r = omega (arith, decimal-size a)
+shown-size t i (suc (suc (suc (suc zero)))) a b r = omega (arith, two-size a b)
+shown-size t i (suc (suc (suc (suc (suc zero))))) a b r = omega (arith, decimal-size a)
+shown-size t i (suc (suc (suc (suc (suc (suc zero)))))) a b r = omega (arith, two-size a b)
+shown-size t i (suc (suc (suc (suc (suc (suc (suc zero))))))) a b r = omega (arith, two-size a b)
+shown-size t i (suc (suc (suc (suc (suc (suc (suc (suc zero)))))))) a b r = omega (arith, decimal-size a)
+shown-size t i (suc (suc (suc (suc (suc (suc (suc (suc (suc k))))))))) a b r = omega (arith, r .known)
+
+lines-size : (n i : ℕ) (f : ℕ → Entry Bytes) → ((j : ℕ) → j < n + i → length (shown (f j)) ≤ 70) → length (lines i (tabulated n i f)) + (73 * i + (i - 10)) ≤ 73 * (n + i) + (n + i - 10)
+unfolding lines tabulated
+lines-size zero i f h = omega arith
+lines-size (suc n) i f h =
+    omega (arith, lines-size n (suc i) f (λ j k. h j (omega arith)), length-append (line i (f i)) (lines (suc i) (tabulated n (suc i) f)), line-length i (f i), h i (omega arith), decimal-step i)
+
+pub most-listing : MostListing
+unfolding listing listed
+most-listing l t k =
+    let n = length-append (decimal (length (listed l t))) (ascii "\n" ++ lines 0 (listed l t)) in
+    let s = lines-size (l .count) 0 (entryIn l t) (λ j h. shown-size t j (getD (l .kinds) j 0) (getD (l .left) j 0) (getD (l .right) j 0) (k .each j (omega arith))) in
+    (omega arith, omega (arith, n, s, decimal-size (length (listed l t)), k .most))
 
 -- ONE LISTING
 pub one-listing : OneListing
-one-listing l t old r s x y (Lists.listed a b) (Lists.listed c d) = (refl, refl)
-one-listing l t old r s x y (Lists.listed a b) (Lists.broken n) = absurd (n a)
-one-listing l t old r s x y (Lists.listed a b) (Lists.short c d) = absurd (omega arith)
-one-listing l t old r s x y (Lists.broken n) (Lists.listed c d) = absurd (n c)
-one-listing l t old r s x y (Lists.broken n) (Lists.broken m) = (refl, refl)
-one-listing l t old r s x y (Lists.broken n) (Lists.short c d) = absurd (n c)
-one-listing l t old r s x y (Lists.short a b) (Lists.listed c d) = absurd (omega arith)
-one-listing l t old r s x y (Lists.short a b) (Lists.broken n) = absurd (n a)
+one-listing l t old r s x y (Lists.written a b) (Lists.written c d) = (refl, refl)
+one-listing l t old r s x y (Lists.written a b) (Lists.short c d) = absurd (omega arith)
+one-listing l t old r s x y (Lists.written a b) (Lists.broken n) = absurd (n a)
+one-listing l t old r s x y (Lists.short a b) (Lists.written c d) = absurd (omega arith)
 one-listing l t old r s x y (Lists.short a b) (Lists.short c d) = (refl, refl)
+one-listing l t old r s x y (Lists.short a b) (Lists.broken n) = absurd (n a)
+one-listing l t old r s x y (Lists.broken n) (Lists.written c d) = absurd (n c)
+one-listing l t old r s x y (Lists.broken n) (Lists.short c d) = absurd (n c)
+one-listing l t old r s x y (Lists.broken n) (Lists.broken m) = (refl, refl)
 
--- WHAT GOES OUT
-module _ (l : L.List) (t old : Bytes) (k : Keeps l t) (p : Page) (f : Full (listing l t) p) where
-  pub list-short : length old < p .size → Lists l t old (record { said = 2; length = p .size }) old
-  list-short h = subst (λ n. Lists l t old (record { said = 2; length = n }) old) (sym (f .size)) (Lists.short k (omega (arith, f .size)))
+-- THE WHOLE PAGE, from its parts
+pub listing-length : (l : L.List) (t : Bytes) → length (listingOf l t) ≡ 9 + length (decimal (l .count)) + length (lines 0 (listed l t))
+unfolding listing
+listing-length l t = omega (arith, length-append (decimal (length (listed l t))) (ascii "\n" ++ lines 0 (listed l t)), ap (λ n. length (decimal n)) (listed-length l t))
 
-  pub list-written : (now : Bytes) → p .size ≤ length old → now ≡ take (p .size) (p .bytes) ++ drop (p .size) old → Lists l t old (record { said = 0; length = p .size }) now
-  list-written now h e = subst (λ x. Lists l t old (record { said = 0; length = p .size }) x) (sym (e ∙ ap (λ x. x ++ drop (p .size) old) (f .holds)))
-      (subst (λ n. Lists l t old (record { said = 0; length = n }) (listing l t ++ drop n old)) (sym (f .size)) (Lists.listed k (omega (arith, f .size))))
+pub puts-listing : (l : L.List) (t : Bytes) {p q r s : Bytes} {a b c : ℕ} → Puts p q 0 a (ascii "entries " ++ decimal (l .count)) → Puts q r a b (ascii "\n") → Puts r s b c (lines 0 (listed l t)) → Puts p s 0 c (listingOf l t)
+unfolding listing
+puts-listing l t x y z = puts-cast (ap (λ n. ascii "entries " ++ (decimal n ++ (ascii "\n" ++ lines 0 (listed l t)))) (sym (listed-length l t))) (puts-then x (puts-then y z))
 
-  pub copied-length : (now : Bytes) → p .size ≤ length old → now ≡ take (p .size) (p .bytes) ++ drop (p .size) old → length now ≡ length old
-  copied-length now h e = ap length e ∙ length-front old (take (p .size) (p .bytes)) (p .size) (length-take-le (p .size) (p .bytes) (f .room .1) ∙ sym (length-take-le (p .size) old h))
+-- WHAT GOES OUT, where the page holds the listing up to n
+pub size-most : {l : L.List} {t p page : Bytes} {n : ℕ} → Keeps l t → Puts p page 0 n (listingOf l t) → n ≤ 2369
+size-most {l} {t} k f = omega (arith, f .moves, most-listing l t k .1)
+
+module _ (l : L.List) (t old : Bytes) (k : Keeps l t) {p page : Bytes} {n : ℕ} (f : Puts p page 0 n (listingOf l t)) where
+  size-is : n ≡ length (listingOf l t)
+  size-is = omega (arith, f .moves)
+
+  pub list-short : length old < n → Lists l t old n old
+  list-short h = subst (λ n. Lists l t old n old) (sym size-is) (Lists.short k (omega (arith, size-is)))
+
+  pub list-written : (r : ℕ) (now : Bytes) → n ≤ length old → r ≡ length (take n page) → now ≡ take (length (take n page)) (take n page) ++ drop (length (take n page)) old → Lists l t old r now
+  list-written r now h e is = subst (λ x. Lists l t old r x) (sym whole) (subst (λ m. Lists l t old m (listingOf l t ++ drop (length (listingOf l t)) old)) (sym long) (Lists.written k (omega (arith, size-is))))
+    where
+      long : r ≡ length (listingOf l t)
+      long = e ∙ ap length (f .holds)
+
+      whole : now ≡ listingOf l t ++ drop (length (listingOf l t)) old
+      whole = is ∙ ap (λ w. take (length w) w ++ drop (length w) old) (f .holds) ∙ ap (λ w. w ++ drop (length (listingOf l t)) old) (take-length (listingOf l t))

@@ -1,51 +1,49 @@
 -- Bytes put on a page, one run behind the other.
-use Prim.Native.Nat.{ℕ, zero, suc, _+_, _-_, _*_, _/_, _%_, _≤_, _<_}
+use Prim.Native.Nat.{ℕ, suc, _+_, _-_, _/_, _%_, _≤_, _<_}
 use native.Mathlib.Omega.{arith}
-use native.Mathlib.Nat.{add-zero, mod-eq-of-lt}
 use native.Mathlib.Numerals.{add-one}
-use mathlib.Core.Path.{_≡_, refl, sym, ap, ap₂, _∙_, subst}
+use mathlib.Core.Path.{_≡_, refl, sym, ap, _∙_, subst}
 use mathlib.Core.Bool.{Bool, true, false, cond}
 use mathlib.Core.List.{List, [], _∷_, _++_, append-assoc, append-nil}
-use lib.ListN.{length, getD, take, drop, set, length-append, length-take, length-set}
-use lib.Seq.{take-suc-set, take-suc, take-length, drop-cons, set-at, length-take-le}
+use lib.ListN.{length, take, drop, set, length-append, length-take, length-drop, length-set}
+use lib.Seq.{take-suc-set, take-length, take-at, length-take-le}
 use lib.Dec.{ltb}
 use borrow.Author.Tests.{lt-ltb, le-ltb}
-use Rattle.meaning.specs.Bytes.{Bytes, ascii, word}
-use Rattle.listing.specs.declared.Page.{Page}
+use Rattle.meaning.specs.Bytes.{Bytes}
 use Rattle.listing.specs.Listing.{decimal}
-use Rattle.listing.specs.inner.Page.{Blank, Puts}
+use Rattle.listing.specs.inner.Page.{Puts}
 
-pub puts-then : {p q r : Page} {v w : Bytes} → Puts p q v → Puts q r w → Puts p r (v ++ w)
-puts-then {p} {q} {r} {v} {w} x y = record {
-  holds = y .holds ∙ ap (λ l. l ++ w) (x .holds) ∙ append-assoc (take (p .size) (p .bytes)) v w;
-  size = omega (arith, x .size, y .size, length-append v w);
-  full = y .full;
+pub puts-then : {p q r : Bytes} {a b c : ℕ} {v w : Bytes} → Puts p q a b v → Puts q r b c w → Puts p r a c (v ++ w)
+puts-then {p} {q} {r} {a} {b} {c} {v} {w} x y = record {
+  holds = y .holds ∙ ap (λ l. l ++ w) (x .holds) ∙ append-assoc (take a p) v w;
+  moves = omega (arith, x .moves, y .moves, length-append v w);
 }
 
-pub puts-cast : {p r : Page} {v w : Bytes} → v ≡ w → Puts p r v → Puts p r w
-puts-cast {p} {r} e x = subst (Puts p r) e x
+pub puts-cast : {p q : Bytes} {a b : ℕ} {v w : Bytes} → v ≡ w → Puts p q a b v → Puts p q a b w
+puts-cast {p} {q} {a} {b} e x = subst (Puts p q a b) e x
 
--- a page as it was
-pub puts-none : (p : Page) → length (p .bytes) ≡ 2400 → Puts p p []
-puts-none p h = record { holds = sym (append-nil (take (p .size) (p .bytes))); size = omega arith; full = h }
+-- a run copied into the page's part from a place on
+pub put-run : (page w part : Bytes) (place n : ℕ) → place + length w ≤ length page → n ≡ length w → part ≡ take (length w) w ++ drop (length w) (take (length page - place) (drop place page))
+    → Puts page (take place page ++ (part ++ drop (length page - place) (drop place page))) place (place + n) w
+put-run page w part place n h e is = record {
+  holds = rw (is, take-length w, e) (ap (λ l. take (place + length w) l) (grouped _ _) ∙ take-at _ _ _ long);
+  moves = ap (λ n. place + n) e;
+}
+  where
+    grouped : (y z : Bytes) → take place page ++ ((w ++ y) ++ z) ≡ (take place page ++ w) ++ (y ++ z)
+    grouped y z = simp append-assoc
 
--- one byte more of a run
-pub puts-next : {p q r : Page} (w : Bytes) (i : ℕ) → i < length w → Puts p q (take i w) → Puts q r (getD w i 0 ∷ []) → Puts p r (take (i + 1) w)
-puts-next w i h x y = puts-cast (sym (ap (λ n. take n w) (add-one i) ∙ take-suc w i 0 h)) (puts-then x y)
-
-pub puts-end : {p r : Page} (w : Bytes) (i : ℕ) → i ≤ length w → length w ≤ i → Puts p r (take i w) → Puts p r w
-puts-end w i h k x = let e : i ≡ length w = omega arith in puts-cast (ap (λ n. take n w) e ∙ take-length w) x
+    long : length (take place page ++ w) ≡ place + length w
+    long = length-append (take place page) w ∙ ap (λ n. n + length w) (length-take-le place page (omega arith))
 
 -- decimal digits
-pub one-digit : (n : ℕ) → n < 10 → (48 + n % 10) ∷ [] ≡ decimal n
+pub one-digit : (n : ℕ) → n < 10 → (48 + n) ∷ [] ≡ decimal n
 unfolding decimal
-one-digit n h = rw (lt-ltb n 10 h, mod-eq-of-lt h)
+one-digit n h = rw (lt-ltb n 10 h)
 
-pub two-digits : (n : ℕ) → 10 ≤ n → n < 100 → (48 + n / 10 % 10) ∷ (48 + n % 10) ∷ [] ≡ decimal n
+pub two-digits : (n : ℕ) → 10 ≤ n → (48 + n / 10) ∷ (48 + n % 10) ∷ [] ≡ decimal n
 unfolding decimal
-two-digits n h k =
-    let e : n / 10 % 10 ≡ n / 10 = omega arith in
-    rw (le-ltb n 10 h, e)
+two-digits n h = rw (le-ltb n 10 h)
 
 pub decimal-size : (n : ℕ) → length (decimal n) ≤ 2
 unfolding decimal
@@ -55,16 +53,16 @@ decimal-size n = go (ltb n 10)
     go true = omega arith
     go false = omega arith
 
--- a byte set behind what the page holds
-pub put-one : (p : Page) (b : ℕ) → p .size < length (p .bytes) → length (p .bytes) ≡ 2400 → Puts p (record { bytes = set (p .bytes) (p .size) b; size = p .size + 1 }) (b ∷ [])
-put-one p b h k = record {
-  holds = ap (λ n. take n (set (p .bytes) (p .size) b)) (add-one (p .size)) ∙ take-suc-set (p .bytes) (p .size) b h;
-  size = refl;
-  full = length-set (p .bytes) (p .size) b ∙ k;
-}
+-- a byte set at a place, and two of them
+pub put-byte : (p : Bytes) (place b : ℕ) → place < length p → Puts p (set p place b) place (place + 1) (b ∷ [])
+put-byte p place b h = record { holds = ap (λ n. take n (set p place b)) (add-one place) ∙ take-suc-set p place b h; moves = refl }
 
--- one byte more copied out
-pub copy-next : (page out now : Bytes) (i : ℕ) → i < length page → i < length out → now ≡ take i page ++ drop i out → set now i (getD page i 0) ≡ take (i + 1) page ++ drop (i + 1) out
-copy-next page out now i h k e =
-    ap (λ l. set l i (getD page i 0)) (e ∙ ap (λ l. take i page ++ l) (drop-cons out i 0 k)) ∙ set-at (take i page) (getD out i 0) (drop (suc i) out) (getD page i 0) i (length-take-le i page (omega arith))
-    ∙ rw (add-one, take-suc page i 0 h) (sym (append-assoc (take i page) (getD page i 0 ∷ []) (drop (suc i) out)))
+pub put-pair : (p : Bytes) (place x y : ℕ) → place + 2 ≤ length p → Puts p (set (set p place x) (place + 1) y) place (place + 2) (x ∷ y ∷ [])
+put-pair p place x y h =
+    let e : place + 1 + 1 ≡ place + 2 = omega arith in
+    subst (λ n. Puts p (set (set p place x) (place + 1) y) place n (x ∷ y ∷ [])) e
+    (puts-then (put-byte p place x (omega arith)) (put-byte (set p place x) (place + 1) y (rw length-set (omega arith))))
+
+-- the length of three runs
+pub three-size : (k x y : Bytes) → length (k ++ (x ++ y)) ≡ length (k ++ x) + length y
+three-size k x y = ap length (sym (append-assoc k x y)) ∙ length-append (k ++ x) y

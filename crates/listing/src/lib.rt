@@ -3,224 +3,167 @@ use question::List;
 use question::rules::list_ok;
 use question::rules::wide;
 ghost use mathlib.Core.Path.{_≡_};
-ghost use mathlib.Core.Bool.{true};
-ghost use Prim.Native.Nat.{ℕ, _+_, _*_, _<_, _≤_};
-ghost use mathlib.Core.List.{[], _∷_, _++_};
+ghost use Prim.Native.Nat.{ℕ, _+_, _<_, _≤_};
+ghost use mathlib.Core.List.{_++_};
 ghost use lib.ListN.{length, take, drop};
 ghost use Rattle.meaning.specs.Bytes.{word, ascii};
-ghost use Rattle.question.specs.Listed.{kindOf, EntryRule, Keeps};
-ghost use Rattle.listing.specs.Listing.{decimal, kindWord, operands, line, lines, listing, Lists};
-ghost use Rattle.listing.specs.inner.Page.{Blank, Puts, Full};
+ghost use Rattle.question.specs.Listed.{entryOf, EntryRule, Keeps, listed};
+ghost use Rattle.listing.specs.Listing.{decimal, shown, line, lines, listing, Lists};
+ghost use Rattle.listing.specs.inner.Page.{Puts};
 
-// What became of a listing: 0 written, with its length; 1 the list breaks its rules; 2 the buffer is too short, with the length needed.
-#[repr(C)]
-pub struct Shown {
-    pub said: u8,
-    pub length: usize,
-}
-
-// What is written before it goes out, since nothing goes out that does not fit: 32 lines of at most 74 bytes, and the first.
-pub struct Page {
-    pub bytes: [u8; 2400],
-    pub size: usize,
-}
-
-fn blank() -> Page
-    ensures { λ r. ⌜ Blank r ⌝ }
+// Puts bytes on a page at a place, and gives the next place; so do the functions below.
+fn put_bytes(page: &mut [u8], at: usize, w: &[u8]) -> usize
+    requires { ⌜ at + length (now w) ≤ length (now page) ⌝ }
+    ensures { λ r. ⌜ Puts (now (page .entry)) (now (page .exit)) at r (now (w .entry)) ⌝ }
 {
-    Page {
-        bytes: [0u8; 2400],
-        size: 0,
-    }
+    at + bytes::copy(w, &mut page[at..])
 }
 
-fn put(page: Page, b: u8) -> Page
-    requires { ⌜ page .size < 2400 ⌝ }
-    ensures { λ r. ⌜ Puts page r (b ∷ []) ⌝ }
-{
-    let mut p = page;
-    let at = p.size;
-    p.bytes[at] = b;
-    p.size = at + 1;
-    p
-}
-
-fn put_bytes(page: Page, w: &[u8]) -> Page
-    requires { ⌜ page .size + length (now w) ≤ 2400 ⌝ }
-    ensures { λ r. ⌜ Puts page r (now (w .entry)) ⌝ }
-{
-    let mut p = page;
-    let mut i = 0;
-    while i < w.len() {
-        p = put(p, w[i]);
-        i = i + 1;
-    }
-    p
-}
-
-fn put_number(page: Page, n: usize) -> Page
+fn put_number(page: &mut [u8], at: usize, n: usize) -> usize
     requires { ⌜ n < 100 ⌝ }
-    requires { ⌜ page .size + 2 ≤ 2400 ⌝ }
-    ensures { λ r. ⌜ Puts page r (decimal n) ⌝ }
+    requires { ⌜ at + length (decimal n) ≤ length (now page) ⌝ }
+    ensures { λ r. ⌜ Puts (now (page .entry)) (now (page .exit)) at r (decimal n) ⌝ }
 {
     if n < 10 {
-        return put(page, (48 + n % 10) as u8);
+        page[at] = (48 + n) as u8;
+        return at + 1;
     }
-    put(put(page, (48 + n / 10 % 10) as u8), (48 + n % 10) as u8)
+    page[at] = (48 + n / 10) as u8;
+    page[at + 1] = (48 + n % 10) as u8;
+    at + 2
+}
+
+// A kind's word, with the blank after it, and an entry's number.
+fn put_one(page: &mut [u8], at: usize, kind: &[u8], a: usize) -> usize
+    requires { ⌜ a < 100 ⌝ }
+    requires { ⌜ at + length (now kind ++ decimal a) ≤ length (now page) ⌝ }
+    ensures { λ r. ⌜ Puts (now (page .entry)) (now (page .exit)) at r (now (kind .entry) ++ decimal a) ⌝ }
+{
+    let next = put_bytes(page, at, kind);
+    put_number(page, next, a)
+}
+
+fn put_two(page: &mut [u8], at: usize, kind: &[u8], a: usize, b: usize) -> usize
+    requires { ⌜ (a < 100) × (b < 100) ⌝ }
+    requires { ⌜ at + length (now kind ++ (decimal a ++ (ascii " " ++ decimal b))) ≤ length (now page) ⌝ }
+    ensures { λ r. ⌜ Puts (now (page .entry)) (now (page .exit)) at r (now (kind .entry) ++ (decimal a ++ (ascii " " ++ decimal b))) ⌝ }
+{
+    let next = put_one(page, at, kind, a);
+    put_one(page, next, b" ", b)
+}
+
+// A kind's word, with the blank after it, also before an empty word, and the word.
+fn put_word(
+    page: &mut [u8],
+    at: usize,
+    kind: &[u8],
+    text: &[u8],
+    start: usize,
+    size: usize,
+) -> usize
+    requires { ⌜ start + size ≤ length (now text) ⌝ }
+    requires { ⌜ at + length (now kind ++ word (now text) start size) ≤ length (now page) ⌝ }
+    ensures { λ r. ⌜ Puts (now (page .entry)) (now (page .exit)) at r (now (kind .entry) ++ word (now (text .entry)) start size) ⌝ }
+{
+    let next = put_bytes(page, at, kind);
+    let end = start + size;
+    put_bytes(page, next, &text[start..end])
 }
 
 // The nine words.
-fn put_kind(page: Page, kind: u8) -> Page
-    requires { ⌜ kind ≤ 8 ⌝ }
-    requires { ⌜ page .size + 5 ≤ 2400 ⌝ }
-    ensures { λ r. ⌜ Puts page r (kindWord (kindOf kind)) ⌝ }
+fn put_entry(page: &mut [u8], at: usize, text: &[u8], kind: u8, a: usize, b: usize) -> usize
+    requires { ⌜ ((i : ℕ) × (i < 32) × EntryRule (now text) i kind a b) ⌝ }
+    requires { ⌜ at + length (shown (entryOf (word (now text)) kind a b)) ≤ length (now page) ⌝ }
+    ensures { λ r. ⌜ Puts (now (page .entry)) (now (page .exit)) at r (shown (entryOf (word (now (text .entry))) kind a b)) ⌝ }
 {
     if kind == 0 {
-        return put_bytes(page, b"self");
+        return put_bytes(page, at, b"self");
     }
     if kind == 1 {
-        return put_bytes(page, b"label");
+        return put_word(page, at, b"label ", text, a, b);
     }
     if kind == 2 {
-        return put_bytes(page, b"text");
+        return put_word(page, at, b"text ", text, a, b);
     }
     if kind == 3 {
-        return put_bytes(page, b"child");
+        return put_one(page, at, b"child ", a);
     }
     if kind == 4 {
-        return put_bytes(page, b"at");
+        return put_two(page, at, b"at ", a, b);
     }
     if kind == 5 {
-        return put_bytes(page, b"below");
+        return put_one(page, at, b"below ", a);
     }
     if kind == 6 {
-        return put_bytes(page, b"or");
+        return put_two(page, at, b"or ", a, b);
     }
     if kind == 7 {
-        return put_bytes(page, b"and");
+        return put_two(page, at, b"and ", a, b);
     }
-    put_bytes(page, b"not")
+    put_one(page, at, b"not ", a)
 }
 
-// A blank and an entry's number.
-fn put_operand(page: Page, n: usize) -> Page
-    requires { ⌜ n < 100 ⌝ }
-    requires { ⌜ page .size + 3 ≤ 2400 ⌝ }
-    ensures { λ r. ⌜ Puts page r (ascii " " ++ decimal n) ⌝ }
-{
-    put_number(put(page, 32), n)
-}
-
-// A blank, also before an empty word, and the word.
-fn put_word(page: Page, text: &[u8], start: usize, size: usize) -> Page
-    requires { ⌜ size ≤ 64 ⌝ }
-    requires { ⌜ start + size ≤ length (now text) ⌝ }
-    requires { ⌜ start ≤ 255 ⌝ }
-    requires { ⌜ page .size + 65 ≤ 2400 ⌝ }
-    ensures { λ r. ⌜ Puts page r (ascii " " ++ word (now (text .entry)) start size) ⌝ }
-{
-    let end = start + size;
-    put_bytes(put(page, 32), &text[start..end])
-}
-
-fn put_operands(page: Page, text: &[u8], kind: u8, a: usize, b: usize) -> Page
-    requires { ⌜ EntryRule (now text) 32 (kindOf kind) a b ⌝ }
-    requires { ⌜ a ≤ 255 ⌝ }
-    requires { ⌜ page .size + 65 ≤ 2400 ⌝ }
-    ensures { λ r. ⌜ Puts page r (operands (now (text .entry)) (kindOf kind) a b) ⌝ }
-{
-    if kind == 0 {
-        return put_bytes(page, b"");
-    }
-    if kind < 3 {
-        return put_word(page, text, a, b);
-    }
-    let p = put_operand(page, a);
-    if kind == 3 {
-        return p;
-    }
-    if kind == 5 {
-        return p;
-    }
-    if kind == 8 {
-        return p;
-    }
-    put_operand(p, b)
-}
-
-fn put_line(page: Page, text: &[u8], i: usize, kind: u8, a: usize, b: usize) -> Page
+fn put_line(
+    page: &mut [u8],
+    at: usize,
+    text: &[u8],
+    i: usize,
+    kind: u8,
+    a: usize,
+    b: usize,
+) -> usize
     requires { ⌜ i < 32 ⌝ }
-    requires { ⌜ EntryRule (now text) i (kindOf kind) a b ⌝ }
-    requires { ⌜ a ≤ 255 ⌝ }
-    requires { ⌜ page .size + 74 ≤ 2400 ⌝ }
-    ensures { λ r. ⌜ Puts page r (line (now (text .entry)) i (kindOf kind) a b) × (r .size ≤ page .size + 74) ⌝ }
+    requires { ⌜ EntryRule (now text) i kind a b ⌝ }
+    requires { ⌜ at + length (line i (entryOf (word (now text)) kind a b)) ≤ length (now page) ⌝ }
+    ensures { λ r. ⌜ Puts (now (page .entry)) (now (page .exit)) at r (line i (entryOf (word (now (text .entry))) kind a b)) ⌝ }
 {
-    let n = put_number(page, i);
-    let k = put_kind(put(n, 32), kind);
-    let o = put_operands(k, text, kind, a, b);
-    put(o, 10)
+    let number = put_number(page, at, i);
+    let blank = put_bytes(page, number, b" ");
+    let entry = put_entry(page, blank, text, kind, a, b);
+    put_bytes(page, entry, b"\n")
 }
 
-fn put_lines(page: Page, list: List, text: &[u8]) -> Page
+fn put_lines(page: &mut [u8], start: usize, list: List, text: &[u8]) -> usize
     requires { ⌜ Keeps list (now text) ⌝ }
-    requires { ⌜ page .size ≤ 32 ⌝ }
-    ensures { λ r. ⌜ Puts page r (lines list (now (text .entry)) (list .count)) × (r .size ≤ 2400) ⌝ }
+    requires { ⌜ start + length (lines 0 (listed list (now text))) ≤ length (now page) ⌝ }
+    ensures { λ r. ⌜ Puts (now (page .entry)) (now (page .exit)) start r (lines 0 (listed list (now (text .entry)))) ⌝ }
 {
-    let mut p = page;
     let count = list.count;
+    let mut at = start;
     let mut i = 0;
     while i < count {
         let kind = list.kinds[i];
         let a = wide(list.left[i]);
         let b = wide(list.right[i]);
-        p = put_line(p, text, i, kind, a, b);
-        i = i + 1;
+        at = put_line(page, at, text, i, kind, a, b);
+        i += 1;
     }
-    p
+    at
 }
 
-fn full_page(list: List, text: &[u8]) -> Page
+fn put_listing(page: &mut [u8], list: List, text: &[u8]) -> usize
     requires { ⌜ Keeps list (now text) ⌝ }
-    ensures { λ r. ⌜ Full (listing list (now (text .entry))) r ⌝ }
+    requires { ⌜ 2369 ≤ length (now page) ⌝ }
+    ensures { λ r. ⌜ Puts (now (page .entry)) (now (page .exit)) 0 r (listing (listed list (now (text .entry)))) ⌝ }
 {
-    let first = put_bytes(blank(), b"entries ");
-    let count = list.count;
-    let head = put(put_number(first, count), 10);
-    put_lines(head, list, text)
+    let word = put_one(page, 0, b"entries ", list.count);
+    let head = put_bytes(page, word, b"\n");
+    put_lines(page, head, list, text)
 }
 
-fn copy_out(page: Page, out: &mut [u8])
-    requires { ⌜ page .size ≤ length (now out) ⌝ }
-    requires { ⌜ (page .size ≤ 2400) × (page .size ≤ length (page .bytes)) ⌝ }
-    ensures { λ r. ⌜ now (out .exit) ≡ take (page .size) (page .bytes) ++ drop (page .size) (now (out .entry)) ⌝ }
-{
-    let size = page.size;
-    let mut i = 0;
-    while i < size {
-        out[i] = page.bytes[i];
-        i = i + 1;
-    }
-}
-
-// What a list says, written into `out`: nothing is written but a whole listing.
+// What a list says, written into `out` where it fits whole; gives its length.
 #[no_mangle]
-pub extern "C" fn question_listing(list: List, text: &[u8], out: &mut [u8]) -> Shown
+pub extern "C" fn question_listing(list: List, text: &[u8], out: &mut [u8]) -> usize
     ensures { λ r. ⌜ Lists list (now (text .entry)) (now (out .entry)) r (now (out .exit)) ⌝ }
 {
-    if list_ok(list, text) {
-        let page = full_page(list, text);
-        let size = page.size;
-        if out.len() < size {
-            return Shown {
-                said: 2,
-                length: size,
-            };
-        }
-        copy_out(page, out);
-        return Shown {
-            said: 0,
-            length: size,
-        };
+    if !list_ok(list, text) {
+        return 0;
     }
-    Shown { said: 1, length: 0 }
+    // no listing is longer
+    let mut page = [0u8; 2369];
+    let size = put_listing(&mut page, list, text);
+    if size <= out.len() {
+        return bytes::copy(&page[..size], out);
+    }
+    size
 }

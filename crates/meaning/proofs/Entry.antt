@@ -91,10 +91,10 @@ module _ {W : Type 0} where
   earlier-append n [] m h k = rw zero-add at k
   earlier-append n (e ∷ l) m h k = (h .0, earlier-append (suc n) l m (h .1) (rw (suc-add, ← add-suc) at k))
 
-  fits-end : (n : ℕ) (l : List (Entry W)) (r : ℕ) (e : Entry W) → Fits n l r → Points (suc r) e → Fits n (l ++ (e ∷ [])) (suc r)
-  fits-end n l r e f p = record { size = rw length-snoc (omega (arith, f .size)); earlier = earlier-append n l (e ∷ []) (f .earlier) (subst (λ m. Points m e) (sym (f .size)) p, tt) }
+  fits-end : (n : ℕ) (l : List (Entry W)) (r : ℕ) (e : Entry W) → Fits n l r → Points (λ w. Unit {0}) (suc r) e → Fits n (l ++ (e ∷ [])) (suc r)
+  fits-end n l r e f p = record { size = rw length-snoc (omega (arith, f .size)); earlier = earlier-append n l (e ∷ []) (f .earlier) (subst (λ m. Points (λ w. Unit {0}) m e) (sym (f .size)) p, tt) }
 
-  fits-two : (n : ℕ) (l m : List (Entry W)) (r s : ℕ) (e : Entry W) → Fits n l r → Fits (suc r) m s → (r < suc s → Points (suc s) e) → Fits n (l ++ (m ++ (e ∷ []))) (suc s)
+  fits-two : (n : ℕ) (l m : List (Entry W)) (r s : ℕ) (e : Entry W) → Fits n l r → Fits (suc r) m s → (r < suc s → Points (λ w. Unit {0}) (suc s) e) → Fits n (l ++ (m ++ (e ∷ []))) (suc s)
   fits-two n l m r s e f g p = record {
     size = rw length-append (omega (arith, f .size, h .size));
     earlier = earlier-append n l (m ++ (e ∷ [])) (f .earlier) (subst (λ k. Earlier k (m ++ (e ∷ []))) (sym (f .size)) (h .earlier));
@@ -157,7 +157,7 @@ module _ {t : Tree} (fin : Finite t) where
   abbrev values : List (Term Bytes) → ℕ → t .N → Bool
   values ts i = val fin (getD ts i Term.self)
 
-  filled-sem : (ts fs : List (Term Bytes)) (n : ℕ) → ((i : ℕ) → i < n → getD ts i Term.self ≡ getD fs i Term.self) → (e : Entry Bytes) → Points n e → val fin (filled ts e) ≡ sem e (values fs)
+  filled-sem : (ts fs : List (Term Bytes)) (n : ℕ) → ((i : ℕ) → i < n → getD ts i Term.self ≡ getD fs i Term.self) → (e : Entry Bytes) → Points (λ w. Unit {0}) n e → val fin (filled ts e) ≡ sem e (values fs)
   unfolding val
   filled-sem ts fs n h Entry.self p = refl
   filled-sem ts fs n h (Entry.label w) p = refl

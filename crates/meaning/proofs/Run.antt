@@ -85,7 +85,7 @@ module _ (A : Algebra) (M : Reading A) (L : Laws A M) where
     abbrev deeperIs : ℕ → Bool
     deeperIs j = some (deep fin (ρ j)) (fin .kids u)
 
-    value-is : (i n : ℕ) → i ≤ n → (e : Entry Bytes) → Points i e → (s : A .St) (v c d : ℕ → A .Ref) → Span s v hereIs 0 i → Span s c kidIs 0 n → Span s d lowerIs 0 i
+    value-is : (i n : ℕ) → i ≤ n → (e : Entry Bytes) → Points (λ w. Unit {0}) i e → (s : A .St) (v c d : ℕ → A .Ref) → Span s v hereIs 0 i → Span s c kidIs 0 n → Span s d lowerIs 0 i
         → M .Is (valueOf A lab txt e s v c d .0) (valueOf A lab txt e s v c d .1) (sem fin e ρ u)
     value-is i n k Entry.self p s v c d hv hc hd = L .high-is s
     value-is i n k (Entry.label w) p s v c d hv hc hd = rw (← (lab-is w)) (literal-is s (lab w))

@@ -68,22 +68,22 @@ module _ {W : Type 0} where
   abbrev pub term : List (Entry W) → ℕ → Term W
   term l i = getD (terms [] l) i Term.self
 
-  -- an entry of number n points only at earlier ones
-  abbrev pub Points : ℕ → Entry W → Type 0
-  Points n self = Unit {0}
-  Points n (label w) = Unit {0}
-  Points n (text w) = Unit {0}
-  Points n (child q) = q < n
-  Points n (at p q) = (p < n) × (q < n)
-  Points n (lower q) = q < n
-  Points n (or p q) = (p < n) × (q < n)
-  Points n (and p q) = (p < n) × (q < n)
-  Points n (not q) = q < n
+  -- an entry of number n points only at earlier ones, and its word, if it has one, keeps P
+  abbrev pub Points : (W → Type 0) → ℕ → Entry W → Type 0
+  Points P n self = Unit {0}
+  Points P n (label w) = P w
+  Points P n (text w) = P w
+  Points P n (child q) = q < n
+  Points P n (at p q) = (p < n) × (q < n)
+  Points P n (lower q) = q < n
+  Points P n (or p q) = (p < n) × (q < n)
+  Points P n (and p q) = (p < n) × (q < n)
+  Points P n (not q) = q < n
 
-  -- and so does each of a list whose first entry has the number n
+  -- each of a list whose first entry has the number n points only at earlier ones, and any word will do
   abbrev pub Earlier : ℕ → List (Entry W) → Type 0
   Earlier n [] = Unit {0}
-  Earlier n (e ∷ l) = Points n e × Earlier (suc n) l
+  Earlier n (e ∷ l) = Points (λ w. Unit {0}) n e × Earlier (suc n) l
 
 -- entry i of a list holds at a row
 abbrev pub EntryHolds : (t : Tree) → List (Entry Bytes) → ℕ → t .N → Type 0

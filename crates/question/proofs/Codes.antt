@@ -1,64 +1,59 @@
--- What a kind's code is, from the tests that the code makes of it.
-use Prim.Native.Nat.{ℕ, zero, suc, _+_, _-_, _≤_, _<_}
+-- The rule for an entry, from the tests that the code makes of its kind.
+use Prim.Native.Nat.{ℕ, zero, suc, _+_, _≤_, _<_}
 use native.Mathlib.Omega.{arith}
-use mathlib.Core.Path.{_≡_, refl, sym, ap, _∙_, subst}
-use mathlib.Core.Bool.{Bool, false}
-use mathlib.Core.Logic.{_⊎_, inl, inr}
-use lib.ListN.{length}
-use Rattle.meaning.specs.Says.{Says, nay}
+use mathlib.Core.Path.{_≡_, refl, sym, subst}
+use mathlib.Core.Bool.{Bool, true, false}
+use Rattle.meaning.specs.Says.{Says, aye, nay}
 use Rattle.meaning.specs.Bytes.{Bytes}
-use Rattle.question.specs.Listed.{Kind, kindOf, EntryRule}
+use Rattle.meaning.proofs.Says.{says-iff}
+use Rattle.meaning.specs.Entry.{Points}
+use Rattle.question.specs.Listed.{Inside, entryOf, placed, EntryRule}
 
--- a label or a text
-pub word-kind : (k : ℕ) → (k ≡ 0 → ⊥) → k < 3 → (kindOf k ≡ Kind.label) ⊎ (kindOf k ≡ Kind.text)
-unfolding kindOf
-word-kind zero z h = absurd (z refl)
-word-kind (suc zero) z h = inl refl
-word-kind (suc (suc zero)) z h = inr refl
-word-kind (suc (suc (suc k))) z h = absurd (omega arith)
+-- an entry of a known kind
+rule : {t : Bytes} {i k a b : ℕ} {r : Bool} → k ≤ 8 → Says (Points (Inside t) i (placed k a b)) r → Says (EntryRule t i k a b) r
+rule h s = says-iff (λ p. record { known = h; points = p }) (λ w. w .points) s
 
-pub no-kind : (k : ℕ) → 8 < k → kindOf k ≡ Kind.unknown
-unfolding kindOf
-no-kind k h = ap kindOf e
-  where
-    e : k ≡ suc (suc (suc (suc (suc (suc (suc (suc (suc (k - 9)))))))))
-    e = omega arith
+module _ (t : Bytes) (i k a b : ℕ) {r : Bool} where
+  is-kind : (m : ℕ) → k ≡ m → Says (EntryRule t i m a b) r → Says (EntryRule t i k a b) r
+  is-kind m e s = subst (λ k. Says (EntryRule t i k a b) r) (sym e) s
 
--- at, or, and: the kinds of two parts
-pub data Two : Kind → Type 0 where
-  at : Two Kind.at
-  or : Two Kind.or
-  and : Two Kind.and
+  pub child-rule : k ≡ 3 → Says (a < i) r → Says (EntryRule t i k a b) r
+  unfolding entryOf
+  child-rule e s = is-kind 3 e (rule (omega arith) s)
 
-pub two-kind : (k : ℕ) → 3 ≤ k → k ≤ 8 → (k ≡ 3 → ⊥) → (k ≡ 5 → ⊥) → (k ≡ 8 → ⊥) → Two (kindOf k)
-unfolding kindOf
-two-kind zero a b c d e = absurd (omega arith)
-two-kind (suc zero) a b c d e = absurd (omega arith)
-two-kind (suc (suc zero)) a b c d e = absurd (omega arith)
-two-kind (suc (suc (suc zero))) a b c d e = absurd (c refl)
-two-kind (suc (suc (suc (suc zero)))) a b c d e = at
-two-kind (suc (suc (suc (suc (suc zero))))) a b c d e = absurd (d refl)
-two-kind (suc (suc (suc (suc (suc (suc zero)))))) a b c d e = or
-two-kind (suc (suc (suc (suc (suc (suc (suc zero))))))) a b c d e = and
-two-kind (suc (suc (suc (suc (suc (suc (suc (suc zero)))))))) a b c d e = absurd (e refl)
-two-kind (suc (suc (suc (suc (suc (suc (suc (suc (suc k))))))))) a b c d e = absurd (omega arith)
+  pub below-rule : k ≡ 5 → Says (a < i) r → Says (EntryRule t i k a b) r
+  unfolding entryOf
+  below-rule e s = is-kind 5 e (rule (omega arith) s)
 
--- THE RULES, by the tests
-module _ (t : Bytes) (i k a b : ℕ) where
-  pub word-rule : (k ≡ 0 → ⊥) → k < 3 → {r : Bool} → Says ((b ≤ 64) × (a + b ≤ length t)) r → Says (EntryRule t i (kindOf k) a b) r
-  word-rule z h {r} s = go (word-kind k z h)
-    where
-      go : (kindOf k ≡ Kind.label) ⊎ (kindOf k ≡ Kind.text) → Says (EntryRule t i (kindOf k) a b) r
-      go (inl e) = subst (λ q. Says (EntryRule t i q a b) r) (sym e) s
-      go (inr e) = subst (λ q. Says (EntryRule t i q a b) r) (sym e) s
+  pub not-rule : k ≡ 8 → Says (a < i) r → Says (EntryRule t i k a b) r
+  unfolding entryOf
+  not-rule e s = is-kind 8 e (rule (omega arith) s)
 
-  pub no-rule : 8 < k → Says (EntryRule t i (kindOf k) a b) false
-  no-rule h = subst (λ q. Says (EntryRule t i q a b) false) (sym (no-kind k h)) (nay (λ w. w))
+module _ (t : Bytes) (i : ℕ) where
+  pub self-rule : (k a b : ℕ) → k ≡ 0 → Says (EntryRule t i k a b) true
+  unfolding entryOf
+  self-rule k a b e = is-kind t i k a b 0 e (rule (omega arith) (aye tt))
 
-  pub two-rule : 3 ≤ k → k ≤ 8 → (k ≡ 3 → ⊥) → (k ≡ 5 → ⊥) → (k ≡ 8 → ⊥) → {r : Bool} → Says ((a < i) × (b < i)) r → Says (EntryRule t i (kindOf k) a b) r
-  two-rule x y c d e {r} s = go (two-kind k x y c d e)
-    where
-      go : {q : Kind} → Two q → Says (EntryRule t i q a b) r
-      go at = s
-      go or = s
-      go and = s
+  pub word-rule : (k a b : ℕ) → (k ≡ 0 → ⊥) → k < 3 → {r : Bool} → Says (Inside t (a, b)) r → Says (EntryRule t i k a b) r
+  unfolding entryOf
+  word-rule zero a b z h s = absurd (z refl)
+  word-rule (suc zero) a b z h s = rule (omega arith) s
+  word-rule (suc (suc zero)) a b z h s = rule (omega arith) s
+  word-rule (suc (suc (suc k))) a b z h s = absurd (omega arith)
+
+  pub no-rule : (k a b : ℕ) → 8 < k → Says (EntryRule t i k a b) false
+  no-rule k a b h = nay (λ w. omega (arith, w .known))
+
+  -- at, or, and: the kinds of two parts
+  pub two-rule : (k a b : ℕ) → 3 ≤ k → k ≤ 8 → (k ≡ 3 → ⊥) → (k ≡ 5 → ⊥) → (k ≡ 8 → ⊥) → {r : Bool} → Says ((a < i) × (b < i)) r → Says (EntryRule t i k a b) r
+  unfolding entryOf
+  two-rule zero a b l h x y z s = absurd (omega arith)
+  two-rule (suc zero) a b l h x y z s = absurd (omega arith)
+  two-rule (suc (suc zero)) a b l h x y z s = absurd (omega arith)
+  two-rule (suc (suc (suc zero))) a b l h x y z s = absurd (x refl)
+  two-rule (suc (suc (suc (suc zero)))) a b l h x y z s = rule (omega arith) s
+  two-rule (suc (suc (suc (suc (suc zero))))) a b l h x y z s = absurd (y refl)
+  two-rule (suc (suc (suc (suc (suc (suc zero)))))) a b l h x y z s = rule (omega arith) s
+  two-rule (suc (suc (suc (suc (suc (suc (suc zero))))))) a b l h x y z s = rule (omega arith) s
+  two-rule (suc (suc (suc (suc (suc (suc (suc (suc zero)))))))) a b l h x y z s = absurd (z refl)
+  two-rule (suc (suc (suc (suc (suc (suc (suc (suc (suc k))))))))) a b l h x y z s = absurd (omega arith)

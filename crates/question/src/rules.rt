@@ -4,7 +4,7 @@ ghost use mathlib.Core.Path.{_≡_};
 ghost use Prim.Native.Nat.{ℕ, _+_, _<_, _≤_};
 ghost use lib.ListN.{length};
 ghost use Rattle.meaning.specs.Says.{Says};
-ghost use Rattle.question.specs.Listed.{kindOf, EntryRule, Keeps};
+ghost use Rattle.question.specs.Listed.{EntryRule, Keeps};
 
 pub fn wide(x: u8) -> usize
     ensures { λ r. ⌜ (r ≡ x) × (r < 256) ⌝ }
@@ -36,7 +36,7 @@ fn both_before(a: usize, b: usize, i: usize) -> bool
 // Whether entry i, of this kind with operands a and b, keeps its rule over the text.
 fn entry_ok(text: &[u8], i: usize, kind: u8, a: usize, b: usize) -> bool
     requires { ⌜ a < 256 ⌝ }
-    ensures { λ r. ⌜ Says (EntryRule (now (text .entry)) i (kindOf kind) a b) r ⌝ }
+    ensures { λ r. ⌜ Says (EntryRule (now (text .entry)) i kind a b) r ⌝ }
 {
     if kind == 0 {
         return true;

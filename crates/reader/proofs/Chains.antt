@@ -12,7 +12,8 @@ use Rattle.meaning.specs.Question.{Question, Conj, OneUnit, writeQuestion, writ
 use Rattle.meaning.specs.Term.{Term, normal, normalConj, normalUnit}
 use Rattle.meaning.specs.Entry.{root}
 use Rattle.reader.specs.declared.State.{State}
-use Rattle.reader.specs.Packed.{Place, wordPlace}
+use Rattle.question.specs.Listed.{Place}
+use Rattle.reader.specs.Packed.{wordPlace}
 use Rattle.reader.specs.inner.Reading.{added, moved, byteAt, reach, reachConj, reachUnit, Form, TreeOf, textOf, termOf, reachOf, PathEnds, ConjEnds, QuestionEnds, Follows, Made, MadeOf, slack, Ready, Goes, Reads, Chain, whole, item, sign, single, joined, grown, writeChain, Extends}
 use Rattle.reader.proofs.Text.{inside, head-at, cons-at}
 use Rattle.reader.proofs.Emit.{emit-or, emit-and}

@@ -9,8 +9,8 @@ use Rattle.meaning.specs.Term.{Term}
 use Rattle.meaning.specs.Entry.{Entry, root, flat}
 use Rattle.meaning.proofs.Entry.{flat-length}
 use Rattle.question.specs.declared.List as L
-use Rattle.reader.specs.Packed.{Place, kindCode, leftOf, rightOf}
-use Rattle.reader.specs.inner.Reading.{pushed, kept, emitted}
+use Rattle.question.specs.Listed.{Place}
+use Rattle.reader.specs.inner.Reading.{kindCode, leftOf, rightOf, pushed, kept, emitted}
 
 kept-append : (xs ys : List (Entry Place)) (l : L.List) → kept (xs ++ ys) l ≡ kept ys (kept xs l)
 unfolding kept

@@ -10,7 +10,7 @@ use Rattle.meaning.specs.Term.{Term}
 use Rattle.meaning.specs.Entry.{root}
 use Rattle.question.specs.declared.List as L
 use Rattle.reader.specs.declared.State.{State}
-use Rattle.reader.specs.Packed.{Place}
+use Rattle.question.specs.Listed.{Place}
 use Rattle.reader.specs.inner.Reading.{pushed, added, moved, deepened, opened, byteAt, emitted, Made}
 use Rattle.reader.proofs.Text.{cons-at, rest-at}
 use Rattle.reader.proofs.Emit.{emitted-count, emit-self, emit-label, emit-text}

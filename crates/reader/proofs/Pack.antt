@@ -10,8 +10,9 @@ use lib.Seq.{set-append-seam}
 use borrow.Author.Tests.{lt-ltb}
 use Rattle.meaning.specs.Entry.{Entry, Points, Earlier}
 use Rattle.question.specs.declared.List as L
-use Rattle.reader.specs.Packed.{Place, kindCode, leftOf, rightOf, padded, packed, emptyList}
-use Rattle.reader.specs.inner.Reading.{stored, pushed, kept}
+use Rattle.question.specs.Listed.{Place}
+use Rattle.reader.specs.Packed.{padded, packed, emptyList}
+use Rattle.reader.specs.inner.Reading.{kindCode, leftOf, rightOf, stored, pushed, kept}
 
 -- the operands of an entry are bytes
 abbrev pub Small : Entry Place → Type 0
@@ -70,7 +71,7 @@ WordSmall (Entry.or p q) = Unit {0}
 WordSmall (Entry.and p q) = Unit {0}
 WordSmall (Entry.not q) = Unit {0}
 
-small-entry : (n : ℕ) (e : Entry Place) → n ≤ 32 → Points n e → WordSmall e → Small e
+small-entry : (n : ℕ) (e : Entry Place) → n ≤ 32 → Points (λ w. Unit {0}) n e → WordSmall e → Small e
 small-entry n Entry.self h p w = (omega arith, omega arith)
 small-entry n (Entry.label x) h p w = w
 small-entry n (Entry.text x) h p w = w

@@ -14,8 +14,9 @@ use Rattle.meaning.specs.Reply.{tabulated}
 use Rattle.meaning.proofs.Entry.{flat-earlier, flat-length}
 use Rattle.question.specs.declared.List as L
 use Rattle.reader.specs.declared.Answer.{Answer}
-use Rattle.question.specs.Listed.{Kind, kindOf, EntryRule, Keeps, entryOf, listed}
-use Rattle.reader.specs.Packed.{Place, wordPlace, placedEntries, kindCode, leftOf, rightOf, padded, packed}
+use Rattle.question.specs.Listed.{Place, Inside, entryOf, EntryRule, Keeps, listed}
+use Rattle.reader.specs.Packed.{wordPlace, placedEntries, padded, packed}
+use Rattle.reader.specs.inner.Reading.{kindCode, leftOf, rightOf}
 use Rattle.reader.proofs.Pack.{WordSmall, AllWordsSmall}
 use Rattle.reader.proofs.Alike.{AlikeEntry, AlikeLists, flat-alike, normal-alike}
 
@@ -60,7 +61,7 @@ alike-length : {t : Bytes} {es : List (Entry Place)} {ys : List (Entry Bytes)} �
 alike-length AlikeLists.none = refl
 alike-length (AlikeLists.more e a) = ap suc (alike-length a)
 
-earlier-at : (n : ℕ) (es : List (Entry Place)) → Earlier n es → (i : ℕ) → i < length es → Points (i + n) (getD es i Entry.self)
+earlier-at : (n : ℕ) (es : List (Entry Place)) → Earlier n es → (i : ℕ) → i < length es → Points (λ w. Unit {0}) (i + n) (getD es i Entry.self)
 earlier-at n [] h i k = absurd (omega arith)
 earlier-at n (e ∷ es) h zero k = rw zero-add (h .0)
 earlier-at n (e ∷ es) h (suc i) k = rw (suc-add, ← add-suc) (earlier-at (suc n) es (h .1) i (omega arith))
@@ -69,8 +70,8 @@ earlier-at n (e ∷ es) h (suc i) k = rw (suc-add, ← add-suc) (earlier-at (suc
 padded-at : (f : Entry Place → ℕ) → f Entry.self ≡ 0 → (es : List (Entry Place)) (i : ℕ) → i < length es → getD (padded (map f es)) i 0 ≡ f (getD es i Entry.self)
 padded-at f z es i h = List·getD-append (map f es) (replicate (32 - length (map f es)) 0) 0 i (omega (arith, length-map es f)) ∙ ap (getD (map f es) i) (sym z) ∙ List·getD-map f es i Entry.self
 
-entry-is : (t : Bytes) {x : Entry Place} {y : Entry Bytes} → AlikeEntry (Stands t) x y → entryOf t (kindOf (kindCode x)) (leftOf x) (rightOf x) ≡ y
-unfolding kindOf
+entry-is : (t : Bytes) {x : Entry Place} {y : Entry Bytes} → AlikeEntry (Stands t) x y → entryOf (word t) (kindCode x) (leftOf x) (rightOf x) ≡ y
+unfolding entryOf
 entry-is t AlikeEntry.self = refl
 entry-is t (AlikeEntry.label s) = ap Entry.label (s .is)
 entry-is t (AlikeEntry.text s) = ap Entry.text (s .is)
@@ -81,17 +82,17 @@ entry-is t (AlikeEntry.or p q) = refl
 entry-is t (AlikeEntry.and p q) = refl
 entry-is t (AlikeEntry.not q) = refl
 
-entry-keeps : (t : Bytes) (i : ℕ) {x : Entry Place} {y : Entry Bytes} → AlikeEntry (Stands t) x y → Points i x → EntryRule t i (kindOf (kindCode x)) (leftOf x) (rightOf x)
-unfolding kindOf
-entry-keeps t i AlikeEntry.self p = tt
-entry-keeps t i (AlikeEntry.label s) p = (s .small, s .inside)
-entry-keeps t i (AlikeEntry.text s) p = (s .small, s .inside)
-entry-keeps t i (AlikeEntry.child q) p = p
-entry-keeps t i (AlikeEntry.at a b) p = p
-entry-keeps t i (AlikeEntry.lower q) p = p
-entry-keeps t i (AlikeEntry.or a b) p = p
-entry-keeps t i (AlikeEntry.and a b) p = p
-entry-keeps t i (AlikeEntry.not q) p = p
+entry-keeps : (t : Bytes) (i : ℕ) {x : Entry Place} {y : Entry Bytes} → AlikeEntry (Stands t) x y → Points (λ w. Unit {0}) i x → EntryRule t i (kindCode x) (leftOf x) (rightOf x)
+unfolding entryOf
+entry-keeps t i AlikeEntry.self p = record { known = omega arith; points = tt }
+entry-keeps t i (AlikeEntry.label s) p = record { known = omega arith; points = (s .small, s .inside) }
+entry-keeps t i (AlikeEntry.text s) p = record { known = omega arith; points = (s .small, s .inside) }
+entry-keeps t i (AlikeEntry.child q) p = record { known = omega arith; points = p }
+entry-keeps t i (AlikeEntry.at a b) p = record { known = omega arith; points = p }
+entry-keeps t i (AlikeEntry.lower q) p = record { known = omega arith; points = p }
+entry-keeps t i (AlikeEntry.or a b) p = record { known = omega arith; points = p }
+entry-keeps t i (AlikeEntry.and a b) p = record { known = omega arith; points = p }
+entry-keeps t i (AlikeEntry.not q) p = record { known = omega arith; points = p }
 
 pub tabulated-is : {X : Type 0} (ys : List X) (z : X) (k : ℕ) (f : ℕ → X) → ((i : ℕ) → i < length ys → f (i + k) ≡ getD ys i z) → tabulated (length ys) k f ≡ ys
 unfolding tabulated
@@ -117,7 +118,7 @@ module _ (t : Bytes) (q : Question) (e : writeQuestion q ≡ t) (few : length (p
       size = alike-length (alike t q e)
 
       at : ℕ → Entry Bytes
-      at i = entryOf t (kindOf (getD (padded (map kindCode (placedEntries q))) i 0)) (getD (padded (map leftOf (placedEntries q))) i 0) (getD (padded (map rightOf (placedEntries q))) i 0)
+      at i = entryOf (word t) (getD (padded (map kindCode (placedEntries q))) i 0) (getD (padded (map leftOf (placedEntries q))) i 0) (getD (padded (map rightOf (placedEntries q))) i 0)
 
       is : (i : ℕ) → i < length (placedEntries q) → at i ≡ getD (entries q) i Entry.self
       is i h = rw (padded-at kindCode refl (placedEntries q) i h, padded-at leftOf refl (placedEntries q) i h, padded-at rightOf refl (placedEntries q) i h) (entry-is t (alike-at (alike t q e) i h))

@@ -15,7 +15,8 @@ use Rattle.meaning.specs.Term.{Term, normal, normalUnit, normalSteps}
 use Rattle.meaning.specs.Entry.{root}
 use Rattle.question.specs.declared.List as L
 use Rattle.reader.specs.declared.State.{State}
-use Rattle.reader.specs.Packed.{Place, wordPlace}
+use Rattle.question.specs.Listed.{Place}
+use Rattle.reader.specs.Packed.{wordPlace}
 use Rattle.reader.specs.inner.Reading.{pushed, added, moved, deepened, opened, failed, byteAt, shutBy, fronts, emitted, reach, reachUnit, reachSteps, Path, writePath, normalPath, Form, PathEnds, ConjEnds, QuestionEnds, Made, MadeOf, Goes, Reads, afterQuoted, Quotes}
 use Rattle.reader.proofs.Text.{inside, head-at, cons-at, rest-at, fronts-split}
 use Rattle.reader.proofs.Emit.{emit-label, emit-text, emit-not, emit-lower}

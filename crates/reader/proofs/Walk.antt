@@ -13,7 +13,8 @@ use Rattle.meaning.specs.Question.{Question, Steps, Rest, Sign, Move, Name, Quo
 use Rattle.meaning.specs.Term.{Term, normal, normalSteps, normalRest}
 use Rattle.meaning.specs.Entry.{root}
 use Rattle.reader.specs.declared.State.{State}
-use Rattle.reader.specs.Packed.{Place, wordPlace}
+use Rattle.question.specs.Listed.{Place}
+use Rattle.reader.specs.Packed.{wordPlace}
 use Rattle.reader.specs.inner.Reading.{added, moved, deepened, opened, failed, byteAt, shutBy, fronts, span, reach, reachSteps, reachRest, Form, PathEnds, Made, MadeOf, Goes, Reads, afterQuoted, Quotes}
 use Rattle.reader.proofs.Text.{inside, letter-inside, head-at, rest-at, span-inside, span-more}
 use Rattle.reader.proofs.Emit.{emit-text, emit-child, emit-lower, emit-at}

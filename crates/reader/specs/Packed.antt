@@ -7,9 +7,7 @@ use Rattle.meaning.specs.Question.{Question}
 use Rattle.meaning.specs.Term.{normal}
 use Rattle.meaning.specs.Entry.{Entry, flat}
 use Rattle.question.specs.declared.List as L
-
-abbrev pub Place : Type 0
-Place = ℕ × ℕ
+use Rattle.question.specs.Listed.{Place}
 
 abbrev pub wordPlace : ℕ → Bytes → Place
 wordPlace start w = (start, length w)
@@ -18,47 +16,29 @@ wordPlace start w = (start, length w)
 abbrev pub placedEntries : Question → List (Entry Place)
 placedEntries q = flat 0 (normal wordPlace 0 q)
 
--- kinds in 01's order, self 0 to not 8
-abbrev pub kindCode : Entry Place → ℕ
-kindCode Entry.self = 0
-kindCode (Entry.label w) = 1
-kindCode (Entry.text w) = 2
-kindCode (Entry.child q) = 3
-kindCode (Entry.at p q) = 4
-kindCode (Entry.lower q) = 5
-kindCode (Entry.or p q) = 6
-kindCode (Entry.and p q) = 7
-kindCode (Entry.not q) = 8
-
--- what is not used is 0
-abbrev pub leftOf : Entry Place → ℕ
-leftOf Entry.self = 0
-leftOf (Entry.label w) = w .0
-leftOf (Entry.text w) = w .0
-leftOf (Entry.child q) = q
-leftOf (Entry.at p q) = p
-leftOf (Entry.lower q) = q
-leftOf (Entry.or p q) = p
-leftOf (Entry.and p q) = p
-leftOf (Entry.not q) = q
-
-abbrev pub rightOf : Entry Place → ℕ
-rightOf Entry.self = 0
-rightOf (Entry.label w) = w .1
-rightOf (Entry.text w) = w .1
-rightOf (Entry.child q) = 0
-rightOf (Entry.at p q) = q
-rightOf (Entry.lower q) = 0
-rightOf (Entry.or p q) = q
-rightOf (Entry.and p q) = q
-rightOf (Entry.not q) = 0
+-- an entry's kind, in 01's order, and its two operands; what is not used is 0
+abbrev pub coded : Entry Place → ℕ × ℕ × ℕ
+coded Entry.self = (0, 0, 0)
+coded (Entry.label w) = (1, w .0, w .1)
+coded (Entry.text w) = (2, w .0, w .1)
+coded (Entry.child q) = (3, q, 0)
+coded (Entry.at p q) = (4, p, q)
+coded (Entry.lower q) = (5, q, 0)
+coded (Entry.or p q) = (6, p, q)
+coded (Entry.and p q) = (7, p, q)
+coded (Entry.not q) = (8, q, 0)
 
 -- 32 numbers, of which the first are given
 abbrev pub padded : List ℕ → List ℕ
 padded xs = xs ++ replicate (32 - length xs) 0
 
 unfoldable pub packed : List (Entry Place) → L.List
-packed es = record { count = length es; kinds = padded (map kindCode es); left = padded (map leftOf es); right = padded (map rightOf es) }
+packed es = record {
+  count = length es;
+  kinds = padded (map (λ e. coded e .0) es);
+  left = padded (map (λ e. coded e .1) es);
+  right = padded (map (λ e. coded e .2) es);
+}
 
 -- an empty list is all 0
 abbrev pub emptyList : L.List

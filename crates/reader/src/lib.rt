@@ -13,7 +13,7 @@ ghost use Rattle.reader.specs.inner.Reading.{pushed, added, moved, faile
 // The answer to a text: 0 and its list, or the number of the refusal and the empty list.
 #[repr(C)]
 pub struct Answer {
-    pub refusal: u8,
+    pub refusal: usize,
     pub list: List,
 }
 
@@ -406,7 +406,7 @@ fn rest(text: &[u8], s: State) -> State
 }
 
 // A refusal, with an empty list.
-fn refuse(number: u8) -> Answer
+fn refuse(number: usize) -> Answer
     ensures { λ r. ⌜ r ≡ refused number ⌝ }
 {
     Answer {

@@ -1,7 +1,7 @@
 use native.Mathlib.Omega.{arith}
 use mathlib.Core.Path.{_∙_}
 use Rattle.meaning.specs.Bytes.{labelIs, textIs}
-use Rattle.question.specs.Listed.{kindOf}
+use Rattle.question.specs.Listed.{entryOf}
 use Rattle.formula.proofs.KindTests.{told-test, label-inside, text-inside, same-place}
 use borrow.Author.Needs.{needs}
 use Rattle.formula.proofs.tested.Statement.{statement}
@@ -41,7 +41,7 @@ constant-requires : tie.Need-constant-requires
 constant-requires c κs = search needs
 
 returns : tie.Need-returns
-unfolding kindOf
+unfolding entryOf
 returns c = rw (c .before .before .before .before .before .before .if1 .taken) (c .constant .ensures ∙ same-place labelIs _ _ (c .before .label-is .ensures) (c .before .before .before .before .wide .ensures .0) (c .before .before .wide2 .ensures .0))
 
 add-wide-3 : tie.Need-add-wide-3
@@ -75,7 +75,7 @@ constant-requires-2 : tie.Need-constant-requires-2
 constant-requires-2 c κs = search needs
 
 returns-2 : tie.Need-returns-2
-unfolding kindOf
+unfolding entryOf
 returns-2 c = rw (c .before .before .before .before .before .before .if2 .taken) (c .constant2 .ensures ∙ same-place textIs _ _ (c .before .text-is .ensures) (c .before .before .before .before .wide3 .ensures .0) (c .before .before .wide4 .ensures .0))
 
 returns-3 : tie.Need-returns-3

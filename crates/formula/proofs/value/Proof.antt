@@ -1,6 +1,5 @@
 use native.Mathlib.Omega.{arith}
 use mathlib.Core.Path.{_∙_}
-use Rattle.question.specs.Listed.{kindOf}
 use Rattle.formula.proofs.KindTests.{left-reads, right-reads, told-value, child-value, lower-value, both-value}
 use borrow.Author.Needs.{needs}
 use Rattle.formula.proofs.value.Statement.{statement}
@@ -58,7 +57,7 @@ same-length : tie.Need-same-length
 same-length c = search needs
 
 returns-4 : tie.Need-returns-4
-unfolding kindOf
+unfolding entryOf
 returns-4 c = record { is = rw (c .before .before .before .before .if4 .taken) (c .before .before .negated .ensures .is); count = search needs }
 
 add-b : tie.Need-add-b
@@ -77,7 +76,7 @@ same-length-2 : tie.Need-same-length-2
 same-length-2 c = search needs
 
 returns-5 : tie.Need-returns-5
-unfolding kindOf
+unfolding entryOf
 returns-5 c = record { is = rw (c .before .before .before .before .if5 .taken) (c .before .before .joined .ensures .is); count = search needs }
 
 joined-requires-2 : tie.Need-joined-requires-2

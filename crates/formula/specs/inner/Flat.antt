@@ -7,10 +7,11 @@ use mathlib.Core.List.{List}
 use lib.ListN.{length, getD, set}
 use lib.Dec.{eqb, ltb}
 use Rattle.meaning.specs.Bytes.{Bytes, word, labelIs, textIs}
+use Rattle.meaning.specs.Entry.{Entry, Points}
 use Rattle.meaning.specs.Fragment.{Fragment, Sound, rowCount, rowsOf}
 use Rattle.meaning.specs.Bound.{count}
 use Rattle.question.specs.declared.List as L
-use Rattle.question.specs.Listed.{Kind, kindOf, Keeps}
+use Rattle.question.specs.Listed.{Place, entryOf, placed, Keeps}
 
 -- the memory and the count of steps, 4097 where one did not fit; the same and a reference
 pub record St : Type 0 where
@@ -81,42 +82,32 @@ abbrev pub truth : Bool → ℕ
 truth b = cond b 4096 0
 
 -- what a label or a text entry says at row k
-abbrev pub testF : Bytes → Fragment → ℕ → Kind → ℕ → ℕ → ℕ
-testF t F k Kind.self a b = 4096
-testF t F k Kind.label a b = truth (labelIs (word t a b) (rowsOf F .label k))
-testF t F k Kind.text a b = truth (textIs (word t a b) (rowsOf F .text k))
-testF t F k Kind.child a b = 4096
-testF t F k Kind.at a b = 4096
-testF t F k Kind.lower a b = 4096
-testF t F k Kind.or a b = 4096
-testF t F k Kind.and a b = 4096
-testF t F k Kind.not a b = 4096
-testF t F k Kind.unknown a b = 4096
+abbrev pub testF : Fragment → ℕ → Entry Bytes → ℕ
+testF F k Entry.self = 4096
+testF F k (Entry.label w) = truth (labelIs w (rowsOf F .label k))
+testF F k (Entry.text w) = truth (textIs w (rowsOf F .text k))
+testF F k (Entry.child i) = 4096
+testF F k (Entry.at i j) = 4096
+testF F k (Entry.lower i) = 4096
+testF F k (Entry.or i j) = 4096
+testF F k (Entry.and i j) = 4096
+testF F k (Entry.not i) = 4096
 
--- entry e reads only earlier ones
-abbrev pub Reads : ℕ → Kind → ℕ → ℕ → Type 0
-Reads e Kind.self i j = Unit {0}
-Reads e Kind.label i j = Unit {0}
-Reads e Kind.text i j = Unit {0}
-Reads e Kind.child i j = i < e
-Reads e Kind.at i j = (i < e) × (j < e)
-Reads e Kind.lower i j = i < e
-Reads e Kind.or i j = (i < e) × (j < e)
-Reads e Kind.and i j = (i < e) × (j < e)
-Reads e Kind.not i j = i < e
-Reads e Kind.unknown i j = ⊥
+-- entry e, of kind k with operands i and j, reads only earlier ones
+pub record Reads (e k i j : ℕ) : Type 0 where
+  pub known : k ≤ 8
+  pub points : Points (λ w. Unit {0}) e (placed k i j)
 
-abbrev pub valueF : ℕ → ℕ → Kind → ℕ → ℕ → ℕ → List ℕ → ℕ → Got
-valueF size at Kind.self i j t m n = got m n t
-valueF size at Kind.label i j t m n = got m n t
-valueF size at Kind.text i j t m n = got m n t
-valueF size at Kind.child i j t m n = got m n (getD m (size + at + i) 0)
-valueF size at Kind.at i j t m n = joinF size 0 (getD m (at + i) 0) (getD m (at + j) 0) m n
-valueF size at Kind.lower i j t m n = got m n (getD m (2 * size + at + i) 0)
-valueF size at Kind.or i j t m n = joinF size 1 (getD m (at + i) 0) (getD m (at + j) 0) m n
-valueF size at Kind.and i j t m n = joinF size 0 (getD m (at + i) 0) (getD m (at + j) 0) m n
-valueF size at Kind.not i j t m n = notF size (getD m (at + i) 0) m n
-valueF size at Kind.unknown i j t m n = got m n t
+abbrev pub valueF : ℕ → ℕ → Entry Place → ℕ → List ℕ → ℕ → Got
+valueF size at Entry.self t m n = got m n t
+valueF size at (Entry.label w) t m n = got m n t
+valueF size at (Entry.text w) t m n = got m n t
+valueF size at (Entry.child i) t m n = got m n (getD m (size + at + i) 0)
+valueF size at (Entry.at i j) t m n = joinF size 0 (getD m (at + i) 0) (getD m (at + j) 0) m n
+valueF size at (Entry.lower i) t m n = got m n (getD m (2 * size + at + i) 0)
+valueF size at (Entry.or i j) t m n = joinF size 1 (getD m (at + i) 0) (getD m (at + j) 0) m n
+valueF size at (Entry.and i j) t m n = joinF size 0 (getD m (at + i) 0) (getD m (at + j) 0) m n
+valueF size at (Entry.not i) t m n = notF size (getD m (at + i) 0) m n
 
 -- V of entry e becomes v, and D the reference of g
 abbrev pub putVD : ℕ → ℕ → ℕ → ℕ → Got → St
@@ -125,13 +116,14 @@ putVD size at e v g = st (set (set (g .mem) (at + e) v) (2 * size + at + e) (g .
 abbrev pub thenD : ℕ → ℕ → ℕ → Got → St
 thenD size at e v = putVD size at e (v .code) (joinF size 1 (v .code) (getD (v .mem) (2 * size + at + e) 0) (v .mem) (v .steps))
 
-unfoldable pub enterF : ℕ → ℕ → ℕ → Kind → ℕ → ℕ → ℕ → St → St
-enterF size at e kind i j t s = thenD size at e (valueF size at kind i j t (s .mem) (s .steps))
+unfoldable pub enterF : ℕ → ℕ → ℕ → Entry Place → ℕ → St → St
+enterF size at e x t s = thenD size at e (valueF size at x t (s .mem) (s .steps))
 
 -- ONE ROW
 unfoldable pub entryF : L.List → Bytes → Fragment → ℕ → ℕ → ℕ → ℕ → St → St
 entryF l t F size at k e s =
-    enterF size at e (kindOf (getD (l .kinds) e 0)) (getD (l .left) e 0) (getD (l .right) e 0) (testF t F k (kindOf (getD (l .kinds) e 0)) (getD (l .left) e 0) (getD (l .right) e 0)) s
+    enterF size at e (placed (getD (l .kinds) e 0) (getD (l .left) e 0) (getD (l .right) e 0))
+    (testF F k (entryOf (word t) (getD (l .kinds) e 0) (getD (l .left) e 0) (getD (l .right) e 0))) s
 
 abbrev pub visitF : L.List → Bytes → Fragment → ℕ → ℕ → ℕ → St → St
 visitF l t F size at k s = across (entryF l t F size at k) 0 (l .count) s

@@ -1,66 +1,76 @@
--- `question::listing/put_number` meets its contract. Assumes nothing.
-use Prim.Native.Nat.{ℕ, _+_, _-_, _*_, _≤_, _<_}
-use mathlib.Core.Path.{_≡_, refl, sym, ap, _∙_, subst}
-use mathlib.Core.List.{List, [], _∷_, _++_}
+use mathlib.Core.Path.{ap}
 use native.Mathlib.Omega.{arith}
-use borrow.Author.Needs.{needs}
-use lib.Dec.{lit<, lit≤}
-use lib.ListN.{length, getD, take, drop, set, length-append, length-set}
-use Rattle.meaning.specs.Bytes.{Bytes, ascii, word}
-use Rattle.listing.specs.inner.Page.{Blank, Puts}
-use Rattle.listing.proofs.Pages.{puts-then, puts-cast, puts-none, puts-next, puts-end, one-digit, two-digits, decimal-size, put-one, copy-next}
+use lib.ListN.{length, length-set}
+use Rattle.listing.proofs.Pages.{puts-cast, one-digit, two-digits, put-byte, put-pair}
 use borrow.Author.Needs.{needs}
 use Rattle.listing.proofs.put_number.Statement.{statement}
 use Rattle.listing.proofs.put_number.Tie as tie
-use Rattle.listing.proofs.put_number.Reads as reads
-use Rattle.listing.proofs.put_number.Lts as lts
-use Rattle.listing.proofs.put.Reads as put-reads
 
-add-put : tie.Need-add-put
-add-put c = search needs
+add-page : tie.Need-add-page
+add-page c = search needs
 
-cast-put : tie.Need-cast-put
-cast-put c = search needs
+cast-page : tie.Need-cast-page
+cast-page c = search needs
 
-put-requires : tie.Need-put-requires
-put-requires c κs = search needs
+slice-write-page : tie.Need-slice-write-page
+slice-write-page c = omega (arith, ap length (one-digit (c .before .args .n) (c .if1 .taken)))
+
+add-result : tie.Need-add-result
+add-result c = search needs
+
+same-length : tie.Need-same-length
+same-length c = search needs
 
 returns : tie.Need-returns
-returns c = puts-cast (one-digit (c .before .before .args .n) (c .before .if1 .taken)) (c .put .ensures)
+returns c = puts-cast (one-digit _ (c .if1 .taken)) (put-byte _ _ _ (omega (arith, ap length (one-digit _ (c .if1 .taken)))))
 
-add-put-2 : tie.Need-add-put-2
-add-put-2 c = search needs
+add-page-2 : tie.Need-add-page-2
+add-page-2 c = search needs
 
-cast-put-2 : tie.Need-cast-put-2
-cast-put-2 c = search needs
+cast-page-2 : tie.Need-cast-page-2
+cast-page-2 c = search needs
 
-put-requires-2 : tie.Need-put-requires-2
-put-requires-2 c κs = search needs
+slice-write-page-2 : tie.Need-slice-write-page-2
+slice-write-page-2 c = omega (arith, ap length (two-digits (c .before .args .n) (c .if1 .left)))
 
-add-put-3 : tie.Need-add-put-3
-add-put-3 c = search needs
+add-page-3 : tie.Need-add-page-3
+add-page-3 c = search needs
 
-cast-put-3 : tie.Need-cast-put-3
-cast-put-3 c = search needs
+cast-page-3 : tie.Need-cast-page-3
+cast-page-3 c = search needs
 
-put-requires-3 : tie.Need-put-requires-3
-put-requires-3 c κs = omega (arith, c .put2 .ensures .size)
+add-page-4 : tie.Need-add-page-4
+add-page-4 c = search needs
+
+slice-write-page-3 : tie.Need-slice-write-page-3
+slice-write-page-3 c = rw length-set (omega (arith, ap length (two-digits _ (c .if1 .left))))
+
+add-result-2 : tie.Need-add-result-2
+add-result-2 c = search needs
+
+same-length-2 : tie.Need-same-length-2
+same-length-2 c = search needs
 
 returns-2 : tie.Need-returns-2
-returns-2 c = puts-cast (two-digits (c .before .before .before .args .n) (c .before .before .if1 .left) (omega arith)) (puts-then (c .before .put2 .ensures) (c .put3 .ensures))
+returns-2 c = puts-cast (two-digits _ (c .if1 .left)) (put-pair _ _ _ _ (omega (arith, ap length (two-digits _ (c .if1 .left)))))
 
 pub put-number-spec : {M : Type 1} → statement M
 put-number-spec =
     tie.close
     (tie.spec
-    add-put
-    cast-put
-    put-requires
+    add-page
+    cast-page
+    slice-write-page
+    add-result
+    same-length
     returns
-    add-put-2
-    cast-put-2
-    put-requires-2
-    add-put-3
-    cast-put-3
-    put-requires-3
+    add-page-2
+    cast-page-2
+    slice-write-page-2
+    add-page-3
+    cast-page-3
+    add-page-4
+    slice-write-page-3
+    add-result-2
+    same-length-2
     returns-2)

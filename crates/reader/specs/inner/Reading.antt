@@ -16,7 +16,8 @@ use Rattle.meaning.specs.Entry.{Entry, root, flat}
 use Rattle.question.specs.declared.List as L
 use Rattle.reader.specs.declared.State.{State}
 use Rattle.reader.specs.declared.Answer.{Answer}
-use Rattle.reader.specs.Packed.{Place, wordPlace, kindCode, leftOf, rightOf, placedEntries, emptyList}
+use Rattle.question.specs.Listed.{Place}
+use Rattle.reader.specs.Packed.{wordPlace, coded, placedEntries, emptyList}
 use Rattle.reader.specs.Read.{Written, Scan}
 
 -- THE STATE'S STEPS. An entry more: counted, and kept where there is room
@@ -64,6 +65,16 @@ passes false b = isNameByte b
 unfoldable pub span : (ℕ → Bool) → Bytes → ℕ
 span p [] = 0
 span p (b ∷ x) = cond (p b) (suc (span p x)) 0
+
+-- an entry's kind and operands
+abbrev pub kindCode : Entry Place → ℕ
+kindCode e = coded e .0
+
+abbrev pub leftOf : Entry Place → ℕ
+leftOf e = coded e .1
+
+abbrev pub rightOf : Entry Place → ℕ
+rightOf e = coded e .2
 
 -- entries put behind a list
 unfoldable pub kept : List (Entry Place) → L.List → L.List

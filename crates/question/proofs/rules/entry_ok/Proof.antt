@@ -1,16 +1,11 @@
-use mathlib.Core.Path.{_≡_, ap, sym, subst}
-use mathlib.Core.Bool.{true}
-use Rattle.meaning.specs.Says.{Says, aye}
-use Rattle.question.specs.Listed.{kindOf, EntryRule}
 use Rattle.meaning.proofs.Numbers.{says-ltb}
-use Rattle.question.proofs.Codes.{word-rule, no-rule, two-rule}
+use Rattle.question.proofs.Codes.{self-rule, word-rule, no-rule, child-rule, below-rule, not-rule, two-rule}
 use borrow.Author.Needs.{needs}
 use Rattle.question.proofs.rules.entry_ok.Statement.{statement}
 use Rattle.question.proofs.rules.entry_ok.Tie as tie
 
 returns : tie.Need-returns
-unfolding kindOf
-returns c = rw (c .if1 .taken) (aye tt)
+returns c = self-rule _ _ _ _ _ (c .if1 .taken)
 
 word-ok-requires : tie.Need-word-ok-requires
 word-ok-requires c κs = search needs
@@ -22,16 +17,13 @@ returns-3 : tie.Need-returns-3
 returns-3 c = no-rule _ _ _ _ _ (c .if3 .taken)
 
 returns-4 : tie.Need-returns-4
-unfolding kindOf
-returns-4 c = rw (c .if4 .taken) (says-ltb _ _)
+returns-4 c = child-rule _ _ _ _ _ (c .if4 .taken) (says-ltb _ _)
 
 returns-5 : tie.Need-returns-5
-unfolding kindOf
-returns-5 c = rw (c .if5 .taken) (says-ltb _ _)
+returns-5 c = below-rule _ _ _ _ _ (c .if5 .taken) (says-ltb _ _)
 
 returns-6 : tie.Need-returns-6
-unfolding kindOf
-returns-6 c = rw (c .if6 .taken) (says-ltb _ _)
+returns-6 c = not-rule _ _ _ _ _ (c .if6 .taken) (says-ltb _ _)
 
 both-before-requires : tie.Need-both-before-requires
 both-before-requires c κs = search needs

@@ -5,13 +5,13 @@ use borrow.Author.Tests.{not-true, not-false}
 use Prim.Native.Nat.{ℕ, _-_, _≤_, _<_}
 use lib.ListN.{getD}
 use Rattle.meaning.specs.Says.{aye, nay}
-use Rattle.question.specs.Listed.{kindOf, EntryRule}
+use Rattle.question.specs.Listed.{EntryRule}
 use Rattle.meaning.proofs.Says.{says-true, says-false}
 use Rattle.question.proofs.rules.list_ok.Statement.{statement}
 use Rattle.question.proofs.rules.list_ok.Tie as tie
 
 abbrev Inv-loop : tie.InvT-loop
-Inv-loop text list count i₀ i = (i ≤ list .count) × ((j : ℕ) → j < i → EntryRule text j (kindOf (getD (list .kinds) j 0)) (getD (list .left) j 0) (getD (list .right) j 0))
+Inv-loop text list count i₀ i = (i ≤ list .count) × ((j : ℕ) → j < i → EntryRule text j (getD (list .kinds) j 0) (getD (list .left) j 0) (getD (list .right) j 0))
 
 abbrev μ-loop : tie.MeasureT-loop
 μ-loop text list count i₀ i = list .count - i
