@@ -93,7 +93,7 @@ module _ (lab txt : Bytes → Bool) where
   value-size (Entry.and p q) s v c d = one-more false s (v p) (v q)
   value-size (Entry.not q) s v c d = neg-one-more s (v q)
 
-  value-cold : (i n : ℕ) → i ≤ n → (e : Entry Bytes) → Points i e → (s : List Step) (v c d : ℕ → Ref) → Cold i v → Cold n c → Cold n d
+  value-cold : (i n : ℕ) → i ≤ n → (e : Entry Bytes) → Points (λ w. Unit {0}) i e → (s : List Step) (v c d : ℕ → Ref) → Cold i v → Cold n c → Cold n d
       → (length (valueOf formula lab txt e s v c d .0) ≤ length s) × Const (valueOf formula lab txt e s v c d .1)
   value-cold i n k Entry.self p s v c d hv hc hd = (le-refl _, high-const)
   value-cold i n k (Entry.label w) p s v c d hv hc hd = (le-refl _, literal-const (lab w))

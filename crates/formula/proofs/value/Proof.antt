@@ -1,5 +1,6 @@
 use native.Mathlib.Omega.{arith}
 use mathlib.Core.Path.{_∙_}
+use Rattle.question.specs.Listed.{entryOf}
 use Rattle.formula.proofs.KindTests.{left-reads, right-reads, told-value, child-value, lower-value, both-value}
 use borrow.Author.Needs.{needs}
 use Rattle.formula.proofs.value.Statement.{statement}
