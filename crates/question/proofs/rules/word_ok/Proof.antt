@@ -13,7 +13,7 @@ add-result : tie.Need-add-result
 add-result c = search needs
 
 returns-2 : tie.Need-returns-2
-returns-2 c = says-iff (λ h. (c .if1 .left, h)) (λ w. w .1) (says-leb _ _)
+returns-2 c = says-iff (λ h. (omega arith, h)) (λ w. w .1) (says-leb _ _)
 
 pub word-ok-spec : {M : Type 1} → statement M
 word-ok-spec = tie.close (tie.spec returns add-result returns-2)
