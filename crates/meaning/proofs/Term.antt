@@ -1,7 +1,7 @@
 -- The normal form means the question; and a term's meaning computed.
 use Prim.Native.Nat.{ℕ}
 use mathlib.Core.Path.{_≡_, refl, sym, subst}
-use mathlib.Core.Bool.{Bool, true, false, not, _&&_, _||_}
+use mathlib.Core.Bool.{Bool, true, not, _&&_, _||_}
 use mathlib.Core.Logic.{_⊎_, inl, inr, ⊎-elim, _↔_}
 use Rattle.meaning.specs.Says.{Says, aye}
 use Rattle.meaning.specs.Bytes.{Bytes}

@@ -1,7 +1,7 @@
 -- Written questions (01, "Written questions"): a type for each form of the grammar, and the text that a tree writes.
 use Prim.Native.Nat.{ℕ}
 use mathlib.Core.Bool.{Bool, true, false, not, _&&_, _||_}
-use mathlib.Core.List.{List, [], _∷_, _++_}
+use mathlib.Core.List.{[], _∷_, _++_}
 use lib.ListN.{length}
 use lib.Dec.{T, leb, eqb}
 use Rattle.meaning.specs.Bytes.{Bytes, ascii}

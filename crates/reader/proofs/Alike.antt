@@ -1,12 +1,11 @@
 -- One question under two namings of its words: the lists are alike, entry by entry, each word by what it is in the text.
-use Prim.Native.Nat.{ℕ, zero, suc, _+_, _≤_, _<_}
+use Prim.Native.Nat.{ℕ, suc, _+_, _≤_, _<_}
 use native.Mathlib.Omega.{arith}
-use native.Mathlib.Nat.{add-zero}
-use mathlib.Core.Path.{_≡_, refl, sym, ap, ap₂, _∙_, subst}
+use mathlib.Core.Path.{_≡_, refl, ap, _∙_, subst}
 use mathlib.Core.List.{List, [], _∷_, _++_, append-assoc}
 use lib.ListN.{length, drop, length-append}
 use Rattle.meaning.specs.Bytes.{Bytes, ascii}
-use Rattle.meaning.specs.Question.{Question, Conj, OneUnit, Steps, Rest, Begin, Sign, Move, Name, Quoted, writeQuoted, writeBegin, writeSign, writeMove}
+use Rattle.meaning.specs.Question.{Question, Conj, OneUnit, Steps, Rest, Begin, Sign, Move, Quoted, writeQuoted, writeBegin, writeSign, writeMove}
 use Rattle.meaning.specs.Question.{writeQuestion, writeConj, writeUnit, writeSteps, writeRest}
 use Rattle.meaning.specs.Term.{Term, moving, beginning, crossing, normal, normalConj, normalUnit, normalSteps, normalRest}
 use Rattle.meaning.specs.Entry.{Entry, root, flat}

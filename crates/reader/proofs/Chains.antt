@@ -1,20 +1,19 @@
 -- Chains of `|` and of `&`, read from left to right; the tree groups to the left.
-use Prim.Native.Nat.{ℕ, zero, suc, _+_, _*_, _≤_, _<_}
+use Prim.Native.Nat.{ℕ, _+_, _≤_, _<_}
 use native.Mathlib.Omega.{arith}
 use mathlib.Core.Path.{_≡_, refl, sym, ap, _∙_, subst}
 use mathlib.Core.Bool.{true}
 use mathlib.Core.List.{List, [], _∷_, _++_, append-assoc, append-nil}
-use lib.ListN.{length, getD, drop, length-append}
+use lib.ListN.{length, getD, drop}
 use lib.Dec.{lit<}
 use borrow.Author.Tests.{eqb-false}
 use Rattle.meaning.specs.Bytes.{Bytes}
-use Rattle.meaning.specs.Question.{Question, Conj, OneUnit, writeQuestion, writeConj, writeUnit}
+use Rattle.meaning.specs.Question.{Question, Conj, writeQuestion, writeConj, writeUnit}
 use Rattle.meaning.specs.Term.{Term, normal, normalConj, normalUnit}
 use Rattle.meaning.specs.Entry.{root}
 use Rattle.reader.specs.declared.State.{State}
-use Rattle.question.specs.Listed.{Place}
 use Rattle.reader.specs.Packed.{wordPlace}
-use Rattle.reader.specs.inner.Reading.{added, moved, byteAt, reach, reachConj, reachUnit, Form, TreeOf, textOf, termOf, reachOf, PathEnds, ConjEnds, QuestionEnds, Follows, Made, MadeOf, slack, Ready, Goes, Reads, Chain, whole, item, sign, single, joined, grown, writeChain, Extends}
+use Rattle.reader.specs.inner.Reading.{added, moved, byteAt, reach, reachConj, reachUnit, TreeOf, textOf, Follows, Made, MadeOf, slack, Reads, Chain, whole, item, sign, single, joined, grown, writeChain, GoesOn, Extends}
 use Rattle.reader.proofs.Text.{inside, head-at, cons-at}
 use Rattle.reader.proofs.Emit.{emit-or, emit-and}
 use Rattle.reader.proofs.Made.{left-over, after-byte, over-two, recast}
@@ -73,7 +72,7 @@ module _ {t : Bytes} where
   }
     where
       go : s .ok ≡ true → (is : List (TreeOf (item c))) (z : Bytes) → drop (s .at) t ≡ writeChain c is ++ z → Follows (whole c) (getD z 0 0)
-          → (s .ok ≡ true) × ((o : State) (q : TreeOf (whole c)) → o .depth ≡ s .depth → MadeOf (whole c) t o s q → MadeOf (whole c) t o s (grown c q is))
+          → (s .ok ≡ true) × GoesOn c t s s is
       go ok [] z e f = (ok, λ o q d m. m)
       go ok (i ∷ is) z e f = absurd (n (head-at t (s .at) _ e))
 
@@ -89,7 +88,7 @@ module _ {t : Bytes} where
   }
     where
       go : s .ok ≡ true → (is : List (TreeOf (item c))) (z : Bytes) → drop (s .at) t ≡ writeChain c is ++ z → Follows (whole c) (getD z 0 0)
-          → (r .ok ≡ true) × ((o : State) (q : TreeOf (whole c)) → o .depth ≡ s .depth → MadeOf (whole c) t o s q → MadeOf (whole c) t o r (grown c q is))
+          → (r .ok ≡ true) × GoesOn c t s r is
       go ok [] z e f = absurd (ends c (subst (Follows (whole c)) (sym (head-at t (s .at) z e) ∙ b) f))
         where
           ends : (c : Chain) → Follows (whole c) (sign c) → ⊥

@@ -1,10 +1,9 @@
 -- A term's entries put behind a list, part by part.
-use Prim.Native.Nat.{ℕ, zero, suc, _+_}
-use native.Mathlib.Numerals.{add-one}
+use Prim.Native.Nat.{ℕ, suc, _+_}
 use native.Mathlib.Omega.{arith}
 use mathlib.Core.Path.{_≡_, refl, sym, ap, _∙_}
 use mathlib.Core.List.{List, [], _∷_, _++_}
-use lib.ListN.{length, length-append}
+use lib.ListN.{length}
 use Rattle.meaning.specs.Term.{Term}
 use Rattle.meaning.specs.Entry.{Entry, root, flat}
 use Rattle.meaning.proofs.Entry.{flat-length}

@@ -1,17 +1,16 @@
 -- The first bytes of a text tell which form a tree that writes it has.
-use Prim.Native.Nat.{ℕ, zero, suc, _+_, _≤_, _<_}
-use native.Mathlib.Omega.{arith}
+use Prim.Native.Nat.{ℕ, suc, _+_}
 use mathlib.Core.Path.{_≡_, refl, sym, ap, _∙_, subst}
-use mathlib.Core.Bool.{Bool, true, false, cond, _&&_, _||_, not, true≢false, false≢true}
-use mathlib.Core.List.{List, [], _∷_, _++_, append-assoc}
+use mathlib.Core.Bool.{Bool, true, false, cond, _&&_, true≢false}
+use mathlib.Core.List.{[], _∷_, _++_, append-assoc}
 use lib.ListN.{length, getD, drop}
 use lib.Seq.{getD-append-add}
 use native.Mathlib.Nat.{add-zero}
 use lib.Dec.{T, eqb, leb}
-use borrow.Author.Tests.{eq-eqb, ne-eqb, eqb-false}
+use borrow.Author.Tests.{ne-eqb, eqb-false}
 use Rattle.meaning.specs.Bytes.{Bytes, ascii}
-use Rattle.meaning.specs.Question.{Question, Conj, OneUnit, Steps, Rest, Begin, Sign, Move, Name, Quoted, isLetter, isNameByte, isName, all, writeBegin, writeSign, writeMove}
-use Rattle.meaning.specs.Question.{writeQuestion, writeConj, writeUnit, writeSteps, writeRest}
+use Rattle.meaning.specs.Question.{Question, OneUnit, Steps, Rest, Begin, Sign, Move, Name, Quoted, isLetter, isNameByte, isName, all, writeBegin}
+use Rattle.meaning.specs.Question.{writeQuestion, writeUnit, writeSteps, writeRest}
 use Rattle.reader.specs.inner.Reading.{fronts, span, Path, writePath, PathEnds}
 use Rattle.reader.proofs.Text.{fronts-split}
 

@@ -1,10 +1,9 @@
 -- How what was read of the parts becomes what was read of the whole.
-use Prim.Native.Nat.{ℕ, zero, suc, _+_, _≤_, _<_, max}
+use Prim.Native.Nat.{ℕ, suc, _+_, _<_, max}
 use native.Mathlib.Omega.{arith}
-use native.Mathlib.Nat.{add-zero}
-use mathlib.Core.Path.{_≡_, refl, sym, ap, _∙_, subst, subst₂}
-use mathlib.Core.List.{List, [], _∷_, _++_, append-assoc, append-nil, append-cancel-left}
-use lib.ListN.{length, getD, drop, length-append}
+use mathlib.Core.Path.{_≡_, refl, sym, ap, _∙_, subst₂}
+use mathlib.Core.List.{List, [], _∷_, _++_, append-assoc, append-cancel-left}
+use lib.ListN.{length, drop, length-append}
 use Rattle.meaning.specs.Bytes.{Bytes}
 use Rattle.meaning.specs.Term.{Term}
 use Rattle.meaning.specs.Entry.{root}
@@ -12,8 +11,8 @@ use Rattle.question.specs.declared.List as L
 use Rattle.reader.specs.declared.State.{State}
 use Rattle.question.specs.Listed.{Place}
 use Rattle.reader.specs.inner.Reading.{pushed, added, moved, deepened, opened, byteAt, emitted, Made}
-use Rattle.reader.proofs.Text.{cons-at, rest-at}
-use Rattle.reader.proofs.Emit.{emitted-count, emit-self, emit-label, emit-text}
+use Rattle.reader.proofs.Text.{cons-at}
+use Rattle.reader.proofs.Emit.{emitted-count, emit-self, emit-label}
 
 module _ {t : Bytes} where
   -- what is left after a form that is followed by z

@@ -1,7 +1,7 @@
 -- The greatest number open is the nesting, where as many are open around the tree as the greatest so far allows.
-use Prim.Native.Nat.{ℕ, zero, suc, _+_, _≤_, max}
+use Prim.Native.Nat.{ℕ, suc, _+_, _≤_, max}
 use native.Mathlib.Omega.{arith}
-use mathlib.Core.Path.{_≡_, refl, sym, ap, _∙_}
+use mathlib.Core.Path.{_≡_, _∙_}
 use Rattle.meaning.specs.Question.{Question, Conj, OneUnit, Steps, Rest}
 use Rattle.reader.specs.Nesting.{nesting, nestingConj, nestingUnit, nestingSteps, nestingRest}
 use Rattle.reader.specs.inner.Reading.{reach, reachConj, reachUnit, reachSteps, reachRest}

@@ -1,12 +1,12 @@
 -- From the state after the last form to the answer; and that there is one answer.
-use Prim.Native.Nat.{ℕ, zero, suc, _+_, _≤_, _<_}
+use Prim.Native.Nat.{ℕ, _+_, _≤_, _<_}
 use native.Mathlib.Omega.{arith}
 use native.Mathlib.Nat.{zero-add}
 use native.Mathlib.Decide.{ℕ-discrete}
 use mathlib.Core.Path.{_≡_, refl, sym, ap, ap₂, _∙_, subst}
 use mathlib.Core.Bool.{Bool, true, false, not, true≢false, false≢true}
 use mathlib.Core.Logic.{_≢_}
-use mathlib.Core.List.{List, [], _∷_, _++_, append-nil}
+use mathlib.Core.List.{List, [], _++_, append-nil}
 use lib.ListN.{length, drop}
 use lib.Seq.{drop-length}
 use Rattle.meaning.specs.Refused.{Unless, Granted}
@@ -14,7 +14,7 @@ use Rattle.meaning.proofs.Refused.{One, one-granted, one-unless, through}
 use Rattle.meaning.specs.Bytes.{Bytes}
 use Rattle.meaning.specs.Question.{Question, writeQuestion}
 use Rattle.meaning.specs.Term.{normal}
-use Rattle.meaning.specs.Entry.{Entry, flat, entries, Earlier}
+use Rattle.meaning.specs.Entry.{Entry}
 use Rattle.meaning.proofs.Entry.{flat-earlier}
 use Rattle.question.specs.declared.List as L
 use Rattle.reader.specs.declared.State.{State}
@@ -22,13 +22,13 @@ use Rattle.reader.specs.declared.Answer.{Answer}
 use Rattle.reader.specs.Nesting.{nesting}
 use Rattle.reader.specs.Packed.{wordPlace, placedEntries, packed, emptyList}
 use Rattle.reader.specs.Read.{Written, Sized, Scan, ReadRefusal, Read}
-use Rattle.reader.specs.inner.Reading.{kept, emitted, Form, Ready, Reads, MadeOf, refused, Scanned}
-use Rattle.question.specs.Listed.{Place, Keeps, listed}
+use Rattle.reader.specs.inner.Reading.{kept, emitted, Form, Ready, Reads, refused, Scanned}
+use Rattle.question.specs.Listed.{Keeps, listed}
 use Rattle.reader.specs.Promise.{OneRead, ReadKeeps, ReadListed}
 use Rattle.reader.proofs.Emit.{kept-count}
 use Rattle.reader.proofs.Nesting.{reach-all}
 use Rattle.reader.proofs.Unique.{write-once, by-nothing}
-use Rattle.reader.proofs.Pack.{kept-packed, all-small, AllWordsSmall}
+use Rattle.reader.proofs.Pack.{kept-packed, all-small}
 use Rattle.reader.proofs.Placed.{words-small, packed-keeps, packed-listed}
 
 abbrev pub start : State

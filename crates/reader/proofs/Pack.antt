@@ -1,11 +1,10 @@
 -- A list of at most 32 entries, kept one by one, is the packed list.
-use Prim.Native.Nat.{ℕ, zero, suc, _+_, _-_, _%_, _≤_, _<_}
+use Prim.Native.Nat.{ℕ, suc, _+_, _-_, _%_, _≤_, _<_}
 use native.Mathlib.Omega.{arith}
 use native.Mathlib.Nat.{mod-eq-of-lt}
-use native.Mathlib.Numerals.{add-one}
-use mathlib.Core.Path.{_≡_, refl, sym, ap, _∙_, subst}
+use mathlib.Core.Path.{_≡_, sym, ap, _∙_}
 use mathlib.Core.List.{List, [], _∷_, _++_, append-assoc, append-nil, map, map-append}
-use lib.ListN.{length, set, replicate, length-append, length-map}
+use lib.ListN.{length, length-append, length-map}
 use lib.Seq.{set-append-seam}
 use borrow.Author.Tests.{lt-ltb}
 use Rattle.meaning.specs.Entry.{Entry, Points, Earlier}

@@ -2,18 +2,17 @@
 use Prim.Native.Nat.{ℕ, zero, suc, _+_, _-_, _≤_, _<_}
 use native.Mathlib.Omega.{arith}
 use native.Mathlib.Nat.{zero-add, add-zero, suc-add, add-suc}
-use mathlib.Core.Path.{_≡_, refl, sym, ap, ap₂, _∙_, subst}
+use mathlib.Core.Path.{_≡_, refl, sym, ap, ap₂, _∙_}
 use mathlib.Core.List.{List, [], _∷_, _++_, append-nil, map}
 use lib.ListN.{length, getD, drop, take, replicate, length-append, length-drop, length-map, List·getD-append, List·getD-map}
 use lib.Seq.{take-append-seam}
 use Rattle.meaning.specs.Bytes.{Bytes, word}
 use Rattle.meaning.specs.Question.{Question, writeQuestion}
 use Rattle.meaning.specs.Term.{normal}
-use Rattle.meaning.specs.Entry.{Entry, flat, entries, Points, Earlier}
+use Rattle.meaning.specs.Entry.{Entry, entries, Points, Earlier}
 use Rattle.meaning.specs.Reply.{tabulated}
 use Rattle.meaning.proofs.Entry.{flat-earlier, flat-length}
 use Rattle.question.specs.declared.List as L
-use Rattle.reader.specs.declared.Answer.{Answer}
 use Rattle.question.specs.Listed.{Place, Inside, entryOf, EntryRule, Keeps, listed}
 use Rattle.reader.specs.Packed.{wordPlace, placedEntries, padded, packed}
 use Rattle.reader.specs.inner.Reading.{kindCode, leftOf, rightOf}

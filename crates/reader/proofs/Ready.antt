@@ -1,18 +1,16 @@
 -- Each call is made where less is left to read: the measure falls, and the state that is handed on is ready.
-use Prim.Native.Nat.{ℕ, zero, suc, _+_, _-_, _*_, _≤_, _<_}
+use Prim.Native.Nat.{ℕ, _+_, _-_, _*_, _≤_, _<_}
 use native.Mathlib.Omega.{arith}
-use mathlib.Core.Path.{_≡_, refl, sym, ap, _∙_}
+use mathlib.Core.Path.{_≡_, ap}
 use mathlib.Core.Bool.{true}
-use mathlib.Core.List.{List}
 use lib.ListN.{length, drop}
-use lib.Dec.{lit<}
 use Rattle.meaning.specs.Bytes.{Bytes}
 use Rattle.meaning.specs.Question.{isLetter}
 use Rattle.reader.specs.declared.State.{State}
 use Rattle.reader.specs.inner.Reading.{added, moved, deepened, byteAt, shutBy, fronts, Form, slack, Ready, Goes, Reads}
 use Rattle.reader.proofs.Text.{inside}
 use Rattle.reader.proofs.Units.{stand-inside, shut-at}
-use Rattle.reader.proofs.Walk.{nameSize, afterName, name-some}
+use Rattle.reader.proofs.Walk.{afterName, name-some}
 
 -- seven times the bytes that are left, and a rank below seven
 abbrev pub size : ℕ → Bytes → State → ℕ

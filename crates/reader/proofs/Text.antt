@@ -1,16 +1,16 @@
 -- Facts of a text: the byte at a place, bytes at the front, and how far a word goes.
-use Prim.Native.Nat.{ℕ, zero, suc, _+_, _-_, _≤_, _<_}
+use Prim.Native.Nat.{ℕ, zero, suc, _+_, _≤_, _<_}
 use native.Mathlib.Omega.{arith}
 use native.Mathlib.Nat.{add-zero}
 use native.Mathlib.Decide.{decLt}
 use native.Mathlib.Numerals.{add-one}
-use mathlib.Core.Path.{_≡_, refl, sym, ap, _∙_, subst}
+use mathlib.Core.Path.{_≡_, refl, sym, ap, _∙_}
 use mathlib.Core.Bool.{Bool, true, false, cond, _&&_, false≢true}
-use mathlib.Core.List.{List, [], _∷_, _++_, append-cancel-left}
-use lib.ListN.{length, getD, drop, take, length-drop, length-append, List·getD-eq-default}
-use lib.Seq.{drop-cons, drop-drop, getD-drop, drop-length, take-append-seam, drop-append-seam}
+use mathlib.Core.List.{List, [], _∷_, _++_}
+use lib.ListN.{length, getD, drop, length-drop, List·getD-eq-default}
+use lib.Seq.{drop-cons, drop-drop, getD-drop, drop-append-seam}
 use lib.Dec.{eqb}
-use borrow.Author.Tests.{eq-eqb, ne-eqb, eqb-true}
+use borrow.Author.Tests.{eq-eqb, eqb-true}
 use Rattle.meaning.specs.Bytes.{Bytes}
 use Rattle.meaning.specs.Question.{isLetter}
 use Rattle.reader.specs.inner.Reading.{byteAt, fronts, span}

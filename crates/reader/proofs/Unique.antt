@@ -1,5 +1,5 @@
 -- NO TEXT IS WRITTEN BY TWO TREES.
-use Prim.Native.Nat.{ℕ, zero, suc, _+_, _≤_, _<_}
+use Prim.Native.Nat.{ℕ, _+_}
 use mathlib.Core.Path.{_≡_, refl, sym, ap, ap₂, _∙_, subst}
 use mathlib.Core.Bool.{Bool, true, false}
 use mathlib.Core.List.{List, [], _∷_, _++_, append-assoc, append-nil, append-cancel-left}
@@ -9,8 +9,8 @@ use lib.Dec.{T, T-prop}
 use borrow.Author.Tests.{eqb-false}
 use Rattle.meaning.specs.Bytes.{Bytes, ascii}
 use Rattle.meaning.specs.Question.{Question, Conj, OneUnit, Steps, Rest, Begin, Sign, Move, Name, Quoted, isNameByte, isQuotable, isName, isQuoted, all, writeQuoted}
-use Rattle.meaning.specs.Question.{writeQuestion, writeConj, writeUnit, writeBegin, writeSteps, writeRest}
-use Rattle.reader.specs.inner.Reading.{fronts, span, Path, writePath, Form, TreeOf, textOf, PathEnds, ConjEnds, QuestionEnds, Follows, Chain, whole, item, sign, single, joined, grown, writeChain}
+use Rattle.meaning.specs.Question.{writeQuestion, writeUnit, writeSteps, writeRest}
+use Rattle.reader.specs.inner.Reading.{fronts, span, Path, writePath, Form, TreeOf, textOf, PathEnds, QuestionEnds, Follows, Chain, whole, item, sign, single, joined, grown, writeChain}
 use Rattle.reader.specs.Promise.{WriteOnce}
 use Rattle.reader.proofs.Heads.{span-all, name-all, rest-head, stepClass, StepKind, StepView, step-view, PathView, path-view, UnitKind, unitClassOf, UnitView, unit-view, RestKind, restClassOf, RestView, rest-view, class-of-view, view-class, begin-class, move-class}
 use Rattle.reader.proofs.Chains.{Spine, spine-question, spine-conj, next, heads, grown-text, single-text}

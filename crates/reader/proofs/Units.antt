@@ -1,27 +1,27 @@
 -- Units and the beginnings of paths: each way to read one, from the ways its parts were read.
-use Prim.Native.Nat.{ℕ, zero, suc, _+_, _*_, _≤_, _<_, max}
+use Prim.Native.Nat.{ℕ, _+_, _≤_, _<_}
 use native.Mathlib.Omega.{arith}
 use mathlib.Core.Path.{_≡_, refl, sym, ap, _∙_, subst}
-use mathlib.Core.Bool.{Bool, true, false, cond, false≢true}
+use mathlib.Core.Bool.{Bool, true, false, false≢true}
 use mathlib.Core.List.{List, [], _∷_, _++_, append-assoc}
 use lib.ListN.{length, getD, drop, length-append, length-drop}
 use lib.Seq.{drop-drop}
-use lib.Dec.{lit<, eqb}
+use lib.Dec.{lit<}
 use native.Mathlib.Decide.{ℕ-discrete}
 use borrow.Author.Tests.{eq-eqb, ne-eqb, eqb-false}
 use Rattle.meaning.specs.Bytes.{Bytes, ascii}
 use Rattle.meaning.specs.Question.{Question, OneUnit, Begin, Steps, Quoted, writeQuoted, writeQuestion, writeUnit, writeSteps}
-use Rattle.meaning.specs.Term.{Term, normal, normalUnit, normalSteps}
+use Rattle.meaning.specs.Term.{Term, normal, normalSteps}
 use Rattle.meaning.specs.Entry.{root}
 use Rattle.question.specs.declared.List as L
 use Rattle.reader.specs.declared.State.{State}
 use Rattle.question.specs.Listed.{Place}
 use Rattle.reader.specs.Packed.{wordPlace}
-use Rattle.reader.specs.inner.Reading.{pushed, added, moved, deepened, opened, failed, byteAt, shutBy, fronts, emitted, reach, reachUnit, reachSteps, Path, writePath, normalPath, Form, PathEnds, ConjEnds, QuestionEnds, Made, MadeOf, Goes, Reads, afterQuoted, Quotes}
-use Rattle.reader.proofs.Text.{inside, head-at, cons-at, rest-at, fronts-split}
+use Rattle.reader.specs.inner.Reading.{pushed, added, moved, deepened, opened, byteAt, shutBy, fronts, emitted, reach, Path, writePath, Form, PathEnds, QuestionEnds, Made, MadeOf, Reads, afterQuoted, Quotes}
+use Rattle.reader.proofs.Text.{inside, head-at, rest-at, fronts-split}
 use Rattle.reader.proofs.Emit.{emit-label, emit-text, emit-not, emit-lower}
 use Rattle.reader.proofs.Made.{left-over, after, after-byte, after-open, before-shut, over-one, recast}
-use Rattle.reader.proofs.Heads.{UnitKind, unitClass, unitClassOf, UnitView, unit-view, PathView, path-view}
+use Rattle.reader.proofs.Heads.{UnitKind, unitClass, UnitView, unit-view, PathView, path-view}
 
 -- bytes that stand at a place
 pub stand-at : (t : Bytes) (at : ℕ) (f : Bytes) → fronts f (drop at t) ≡ true → drop at t ≡ f ++ drop (at + length f) t

@@ -1,21 +1,19 @@
 -- Steps and what follows them: each way to read one, from the ways its parts were read.
-use Prim.Native.Nat.{ℕ, zero, suc, _+_, _*_, _≤_, _<_, max}
+use Prim.Native.Nat.{ℕ, _+_, _≤_, _<_}
 use native.Mathlib.Omega.{arith}
 use mathlib.Core.Path.{_≡_, refl, sym, ap, _∙_, subst}
-use mathlib.Core.Bool.{Bool, true, false, cond, false≢true}
-use mathlib.Core.List.{List, [], _∷_, _++_, append-assoc}
-use lib.ListN.{length, getD, drop, take, length-append}
-use lib.Seq.{take-append-seam}
-use lib.Dec.{lit<, eqb, T}
-use borrow.Author.Tests.{eq-eqb, ne-eqb, eqb-false}
+use mathlib.Core.Bool.{true, false, false≢true}
+use mathlib.Core.List.{[], _∷_, _++_, append-assoc}
+use lib.ListN.{length, getD, drop, take}
+use lib.Dec.{lit<}
+use borrow.Author.Tests.{eq-eqb, ne-eqb}
 use Rattle.meaning.specs.Bytes.{Bytes, ascii}
-use Rattle.meaning.specs.Question.{Question, Steps, Rest, Sign, Move, Name, Quoted, isLetter, isNameByte, isName, writeQuoted, writeQuestion, writeSteps, writeRest}
-use Rattle.meaning.specs.Term.{Term, normal, normalSteps, normalRest}
+use Rattle.meaning.specs.Question.{Question, Steps, Rest, Sign, Move, Name, Quoted, isLetter, isNameByte, writeQuoted, writeQuestion, writeSteps, writeRest}
+use Rattle.meaning.specs.Term.{Term, normal, normalRest}
 use Rattle.meaning.specs.Entry.{root}
 use Rattle.reader.specs.declared.State.{State}
-use Rattle.question.specs.Listed.{Place}
 use Rattle.reader.specs.Packed.{wordPlace}
-use Rattle.reader.specs.inner.Reading.{added, moved, deepened, opened, failed, byteAt, shutBy, fronts, span, reach, reachSteps, reachRest, Form, PathEnds, Made, MadeOf, Goes, Reads, afterQuoted, Quotes}
+use Rattle.reader.specs.inner.Reading.{added, moved, deepened, opened, failed, byteAt, shutBy, fronts, span, reach, reachRest, Form, PathEnds, Made, MadeOf, Reads, afterQuoted, Quotes}
 use Rattle.reader.proofs.Text.{inside, letter-inside, head-at, rest-at, span-inside, span-more}
 use Rattle.reader.proofs.Emit.{emit-text, emit-child, emit-lower, emit-at}
 use Rattle.reader.proofs.Made.{left-over, after, after-byte, after-open, before-shut, over-one, over-two, recast, nothing-made, label-made}

@@ -1,19 +1,18 @@
 -- Names and quoted words, as far as they go.
-use Prim.Native.Nat.{ℕ, zero, suc, _+_, _-_, _*_, _≤_, _<_}
+use Prim.Native.Nat.{ℕ, suc, _+_, _≤_, _<_}
 use native.Mathlib.Omega.{arith}
-use native.Mathlib.Nat.{add-zero}
 use mathlib.Core.Path.{_≡_, refl, sym, ap, _∙_, subst}
 use mathlib.Core.Bool.{Bool, true, false, cond, _&&_, false≢true}
-use mathlib.Core.List.{List, [], _∷_, _++_, append-assoc}
-use lib.ListN.{length, getD, drop, take, length-append, length-drop, take-append-drop}
-use lib.Seq.{drop-drop, getD-drop, length-take-le, take-append-seam, getD-append-add}
+use mathlib.Core.List.{[], _∷_, _++_, append-assoc}
+use lib.ListN.{length, getD, drop, take, take-append-drop}
+use lib.Seq.{drop-drop, length-take-le}
 use lib.Dec.{T, leb, le→leb, leb→le, lit<}
 use Rattle.meaning.specs.Bytes.{Bytes}
 use Rattle.meaning.specs.Question.{Quoted, isLetter, isNameByte, isQuotable, isName, isQuoted, all, writeQuoted}
 use Rattle.reader.specs.declared.State.{State}
-use Rattle.reader.specs.inner.Reading.{added, moved, failed, byteAt, span, Goes, afterQuoted, Quotes}
-use Rattle.reader.proofs.Text.{inside, head-at, rest-at, cons-at, span-fits, span-inside}
-use Rattle.reader.proofs.Heads.{both, holds, span-all}
+use Rattle.reader.specs.inner.Reading.{added, moved, failed, byteAt, span, Quotes}
+use Rattle.reader.proofs.Text.{inside, head-at, rest-at, cons-at, span-fits}
+use Rattle.reader.proofs.Heads.{both, span-all}
 
 and-T : (a b : Bool) → T a → T b → T (a && b)
 and-T true b x y = y

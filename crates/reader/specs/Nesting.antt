@@ -1,5 +1,5 @@
 -- Nesting (01, "Written questions"): the greatest number of `(` and `[` open at once, not counting the `()` of a test.
-use Prim.Native.Nat.{ℕ, zero, suc, max}
+use Prim.Native.Nat.{ℕ, suc, max}
 use Rattle.meaning.specs.Question.{Question, Conj, OneUnit, Steps, Rest}
 
 unfoldable mutual

@@ -1,5 +1,4 @@
 -- WHAT IS PROVED OF THE READER: each promise is a type, and proofs/ has an element of it under its name (`one-read` of `OneRead`).
-use Prim.Native.Nat.{ℕ}
 use mathlib.Core.Path.{_≡_}
 use Rattle.meaning.specs.Bytes.{Bytes}
 use Rattle.meaning.specs.Question.{Question, writeQuestion}

@@ -5,11 +5,9 @@ use Rattle.reader.proofs.add.Reads as reads
 use Rattle.reader.proofs.add.Lts as lts
 use Rattle.reader.proofs.push.Reads as push-reads
 
--- src/lib.rt:91:9
 push-requires : tie.Need-push-requires
 push-requires c κs = search needs
 
--- src/lib.rt:85:1
 returns : tie.Need-returns
 returns c = rw (c .push .ensures)
 

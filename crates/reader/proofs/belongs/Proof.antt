@@ -6,19 +6,15 @@ use Rattle.reader.proofs.belongs.Lts as lts
 use Rattle.reader.proofs.name_byte.Reads as name-byte-reads
 use Rattle.reader.proofs.quotable.Reads as quotable-reads
 
--- src/lib.rt:222:17
 quotable-requires : tie.Need-quotable-requires
 quotable-requires c κs = search needs
 
--- src/lib.rt:222:38
 name-byte-requires : tie.Need-name-byte-requires
 name-byte-requires c κs = search needs
 
--- src/lib.rt:219:1
 returns : tie.Need-returns
 returns c = rw (c .before .if1 .taken) (c .quotable .ensures)
 
--- src/lib.rt:219:1
 returns-2 : tie.Need-returns-2
 returns-2 c = rw (c .before .if1 .left) (c .name-byte .ensures)
 

@@ -1,21 +1,18 @@
-use Prim.Native.Nat.{ℕ, suc, _+_, _-_, _≤_, _<_, max}
+use Prim.Native.Nat.{_+_, max}
 use native.Mathlib.Omega.{arith}
-use mathlib.Core.Path.{_≡_, refl, sym, ap, _∙_}
+use mathlib.Core.Path.{_≡_}
 use borrow.Author.Needs.{needs}
 use Rattle.reader.proofs.deeper.Statement.{statement}
 use Rattle.reader.proofs.deeper.Tie as tie
 use Rattle.reader.proofs.deeper.Reads as reads
 use Rattle.reader.proofs.deeper.Lts as lts
 
--- src/lib.rt:125:17
 add-depth : tie.Need-add-depth
 add-depth c = search needs
 
--- src/lib.rt:130:9
 returns : tie.Need-returns
 returns c = let e : max (c .before .before .before .args .s .most) (c .before .before .before .args .s .depth + 1) ≡ c .before .before .before .args .s .depth + 1 = omega arith in rw e
 
--- src/lib.rt:119:1
 returns-2 : tie.Need-returns-2
 returns-2 c = let e : max (c .before .before .before .args .s .most) (c .before .before .before .args .s .depth + 1) ≡ c .before .before .before .args .s .most = omega arith in rw e
 

@@ -6,15 +6,12 @@ use Rattle.reader.proofs.here.Tie as tie
 use Rattle.reader.proofs.here.Reads as reads
 use Rattle.reader.proofs.here.Lts as lts
 
--- src/lib.rt:162:26
 shared-slice-read-result : tie.Need-shared-slice-read-result
 shared-slice-read-result c = search needs
 
--- src/lib.rt:159:1
 returns : tie.Need-returns
 returns c = sym (fronts-inside (c .before .before .args .text .now) (c .before .before .args .at) (c .before .before .args .b) (c .before .if1 .taken))
 
--- src/lib.rt:159:1
 returns-2 : tie.Need-returns-2
 returns-2 c = sym (fronts-outside (c .before .args .text .now) (c .before .args .at) (c .before .args .b) (c .if1 .left))
 

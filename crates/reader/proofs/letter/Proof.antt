@@ -6,19 +6,15 @@ use Rattle.reader.proofs.letter.Reads as reads
 use Rattle.reader.proofs.letter.Lts as lts
 use Rattle.reader.proofs.within.Reads as within-reads
 
--- src/lib.rt:183:8
 within-requires : tie.Need-within-requires
 within-requires c κs = search needs
 
--- src/lib.rt:184:9
 returns : tie.Need-returns
 returns c = rw (sym (c .before .within .ensures) ∙ c .if1 .taken)
 
--- src/lib.rt:186:5
 within-requires-2 : tie.Need-within-requires-2
 within-requires-2 c κs = search needs
 
--- src/lib.rt:180:1
 returns-2 : tie.Need-returns-2
 returns-2 c = rw (sym (c .before .before .within .ensures) ∙ c .before .if1 .left) (c .within2 .ensures)
 

@@ -8,27 +8,21 @@ use Rattle.reader.proofs.name_byte.Lts as lts
 use Rattle.reader.proofs.letter.Reads as letter-reads
 use Rattle.reader.proofs.within.Reads as within-reads
 
--- src/lib.rt:192:8
 letter-requires : tie.Need-letter-requires
 letter-requires c κs = search needs
 
--- src/lib.rt:193:9
 returns : tie.Need-returns
 returns c = rw (sym (c .before .letter .ensures) ∙ c .if1 .taken)
 
--- src/lib.rt:195:8
 within-requires : tie.Need-within-requires
 within-requires c κs = search needs
 
--- src/lib.rt:196:9
 returns-2 : tie.Need-returns-2
 returns-2 c = rw (sym (c .before .before .before .letter .ensures) ∙ c .before .before .if1 .left, sym (c .before .within .ensures) ∙ c .if2 .taken)
 
--- src/lib.rt:189:1
 returns-3 : tie.Need-returns-3
 returns-3 c = rw (sym (c .before .before .before .before .letter .ensures) ∙ c .before .before .before .if1 .left, sym (c .before .before .within .ensures) ∙ c .before .if2 .left, eq-eqb _ 45 (c .if3 .taken))
 
--- src/lib.rt:189:1
 returns-4 : tie.Need-returns-4
 returns-4 c = rw (sym (c .before .before .before .before .letter .ensures) ∙ c .before .before .before .if1 .left, sym (c .before .before .within .ensures) ∙ c .before .if2 .left, ne-eqb _ 45 (c .if3 .left))
 

@@ -6,19 +6,15 @@ use Rattle.reader.proofs.past.Lts as lts
 use Rattle.reader.proofs.deeper.Reads as deeper-reads
 use Rattle.reader.proofs.to.Reads as to-reads
 
--- src/lib.rt:132:9
 deeper-requires : tie.Need-deeper-requires
 deeper-requires c κs = search needs
 
--- src/lib.rt:132:9
 returns : tie.Need-returns
 returns c = rw (c .before .if1 .taken) (c .deeper .ensures)
 
--- src/lib.rt:134:5
 to-requires : tie.Need-to-requires
 to-requires c κs = search needs
 
--- src/lib.rt:127:1
 returns-2 : tie.Need-returns-2
 returns-2 c = rw (c .before .if1 .left) (c .to .ensures)
 

@@ -6,15 +6,12 @@ use Rattle.reader.proofs.peek.Tie as tie
 use Rattle.reader.proofs.peek.Reads as reads
 use Rattle.reader.proofs.peek.Lts as lts
 
--- src/lib.rt:139:26
 shared-slice-read-result : tie.Need-shared-slice-read-result
 shared-slice-read-result c = search needs
 
--- src/lib.rt:136:1
 returns : tie.Need-returns
 returns c = search needs
 
--- src/lib.rt:136:1
 returns-2 : tie.Need-returns-2
 returns-2 c = sym (List·getD-eq-default (c .before .args .text .now) 0 (c .if1 .left))
 

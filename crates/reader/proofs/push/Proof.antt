@@ -5,35 +5,27 @@ use Rattle.reader.proofs.push.Tie as tie
 use Rattle.reader.proofs.push.Reads as reads
 use Rattle.reader.proofs.push.Lts as lts
 
--- src/lib.rt:75:15
 add-l : tie.Need-add-l
 add-l c = search needs
 
--- src/lib.rt:77:9
 element-write-l : tie.Need-element-write-l
 element-write-l c = search needs
 
--- src/lib.rt:78:21
 cast-l : tie.Need-cast-l
 cast-l c = search needs
 
--- src/lib.rt:78:9
 element-write-l-2 : tie.Need-element-write-l-2
 element-write-l-2 c = search needs
 
--- src/lib.rt:79:22
 cast-l-2 : tie.Need-cast-l-2
 cast-l-2 c = search needs
 
--- src/lib.rt:79:9
 element-write-l-3 : tie.Need-element-write-l-3
 element-write-l-3 c = search needs
 
--- src/lib.rt:80:9
 returns : tie.Need-returns
 returns c = rw (lt-ltb _ 32 (c .if1 .taken))
 
--- src/lib.rt:69:1
 returns-2 : tie.Need-returns-2
 returns-2 c = rw (le-ltb _ 32 (c .if1 .left))
 

@@ -1,8 +1,5 @@
--- `question::question_read` meets its contract. Assumes nothing.
-use mathlib.Core.Path.{_≡_, refl, sym, ap, _∙_}
-use native.Mathlib.Omega.{arith}
+-- `reader::question_read` meets its contract. Assumes nothing.
 use Rattle.reader.proofs.Outcome.{over-many, few-enough}
-use borrow.Author.Needs.{needs}
 use Rattle.reader.proofs.question_read.Statement.{statement}
 use Rattle.reader.proofs.question_read.Tie as tie
 use Rattle.reader.proofs.question_read.Reads as reads

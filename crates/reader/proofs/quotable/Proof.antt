@@ -7,15 +7,12 @@ use Rattle.reader.proofs.quotable.Reads as reads
 use Rattle.reader.proofs.quotable.Lts as lts
 use Rattle.reader.proofs.within.Reads as within-reads
 
--- src/lib.rt:205:9
 returns : tie.Need-returns
 returns c = rw (eq-eqb _ 34 (c .if1 .taken))
 
--- src/lib.rt:207:5
 within-requires : tie.Need-within-requires
 within-requires c κs = search needs
 
--- src/lib.rt:201:1
 returns-2 : tie.Need-returns-2
 returns-2 c = rw (ne-eqb _ 34 (c .before .if1 .left)) (c .within .ensures)
 

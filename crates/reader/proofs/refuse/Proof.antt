@@ -1,4 +1,4 @@
--- `question::refuse` meets its contract. Assumes nothing.
+-- `reader::refuse` meets its contract. Assumes nothing.
 use mathlib.Core.Path.{_≡_, refl, sym, ap, _∙_}
 use borrow.Author.Needs.{needs}
 use Rattle.reader.proofs.refuse.Statement.{statement}

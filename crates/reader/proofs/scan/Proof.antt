@@ -1,10 +1,6 @@
--- `question::scan` meets its contract. Assumes nothing.
-use Prim.Native.Nat.{ℕ, _≤_, _<_}
-use mathlib.Core.Path.{_≡_, refl, sym, ap, _∙_}
-use mathlib.Core.Bool.{Bool, true, false, not, true≢false, false≢true}
+-- `reader::scan` meets its contract. Assumes nothing.
 use native.Mathlib.Omega.{arith}
 use Rattle.reader.proofs.Outcome.{start-ready, wrong-length, not-grammar, not-written, scan-deep, scan-read, not-yes, not-no}
-use borrow.Author.Needs.{needs}
 use Rattle.reader.proofs.scan.Statement.{statement}
 use Rattle.reader.proofs.scan.Tie as tie
 use Rattle.reader.proofs.scan.Reads as reads

@@ -9,27 +9,21 @@ use Rattle.reader.proofs.fail.Reads as fail-reads
 use Rattle.reader.proofs.peek.Reads as peek-reads
 use Rattle.reader.proofs.to.Reads as to-reads
 
--- src/lib.rt:151:8
 peek-requires : tie.Need-peek-requires
 peek-requires c κs = search needs
 
--- src/lib.rt:152:22
 add-to : tie.Need-add-to
 add-to c = search needs
 
--- src/lib.rt:152:9
 to-requires : tie.Need-to-requires
 to-requires c κs = search needs
 
--- src/lib.rt:152:9
 returns : tie.Need-returns
 returns c = rw (c .to .ensures, eq-eqb _ (c .before .before .before .before .args .b) (sym (c .before .before .peek .ensures) ∙ c .before .if1 .taken))
 
--- src/lib.rt:154:5
 fail-requires : tie.Need-fail-requires
 fail-requires c κs = search needs
 
--- src/lib.rt:143:1
 returns-2 : tie.Need-returns-2
 returns-2 c = rw (c .fail .ensures, ne-eqb _ (c .before .before .before .before .args .b) (λ e. c .before .if1 .left (c .before .before .peek .ensures ∙ e)))
 

@@ -4,11 +4,9 @@ use Rattle.reader.proofs.within.Tie as tie
 use Rattle.reader.proofs.within.Reads as reads
 use Rattle.reader.proofs.within.Lts as lts
 
--- src/lib.rt:174:1
 returns : tie.Need-returns
 returns c = rw (le-leb (c .before .args .low) _ (c .if1 .taken))
 
--- src/lib.rt:174:1
 returns-2 : tie.Need-returns-2
 returns-2 c = rw (lt-leb (c .before .args .low) _ (c .if1 .left))
 

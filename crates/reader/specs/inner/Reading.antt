@@ -1,6 +1,6 @@
 -- What the functions of the reader promise each other: a form is read soundly (what is read is a tree of the form) and completely
 -- (a tree that stands there, followed by what may follow it, is read).
-use Prim.Native.Nat.{ℕ, zero, suc, _+_, _-_, _*_, _%_, _≤_, _<_, max}
+use Prim.Native.Nat.{ℕ, suc, _+_, _*_, _%_, _≤_, max}
 use mathlib.Core.Path.{_≡_}
 use mathlib.Core.Bool.{Bool, true, false, cond, _&&_}
 use mathlib.Core.Logic.{_≢_}
@@ -25,10 +25,22 @@ abbrev pub stored : List ℕ → ℕ → ℕ → List ℕ
 stored xs n v = cond (ltb n 32) (set xs n v) xs
 
 abbrev pub pushed : L.List → ℕ → ℕ → ℕ → L.List
-pushed l kind a b = record { count = l .count + 1; kinds = stored (l .kinds) (l .count) kind; left = stored (l .left) (l .count) (a % 256); right = stored (l .right) (l .count) (b % 256) }
+pushed l kind a b = record {
+  count = l .count + 1;
+  kinds = stored (l .kinds) (l .count) kind;
+  left = stored (l .left) (l .count) (a % 256);
+  right = stored (l .right) (l .count) (b % 256);
+}
 
 abbrev pub added : State → ℕ → ℕ → ℕ → State
-added s kind a b = record { ok = s .ok; at = s .at; top = s .list .count; depth = s .depth; most = s .most; list = pushed (s .list) kind a b }
+added s kind a b = record {
+  ok = s .ok;
+  at = s .at;
+  top = s .list .count;
+  depth = s .depth;
+  most = s .most;
+  list = pushed (s .list) kind a b;
+}
 
 abbrev pub moved : State → ℕ → State
 moved s at = record { ok = s .ok; at = at; top = s .top; depth = s .depth; most = s .most; list = s .list }
@@ -216,7 +228,8 @@ pub record Goes (t : Bytes) (s r : State) (extra : ℕ) : Type 0 where
 pub record Reads (g : Form) (t : Bytes) (s r : State) : Type 0 where
   pub goes : Goes t s r (slack g)
   pub sound : r .ok ≡ true → (s .ok ≡ true) × ((c : TreeOf g) × MadeOf g t s r c)
-  pub complete : s .ok ≡ true → (c : TreeOf g) (z : Bytes) → drop (s .at) t ≡ textOf g c ++ z → Follows g (getD z 0 0) → (r .ok ≡ true) × MadeOf g t s r c
+  pub complete : s .ok ≡ true → (c : TreeOf g) (z : Bytes) → drop (s .at) t ≡ textOf g c ++ z → Follows g (getD z 0 0)
+      → (r .ok ≡ true) × MadeOf g t s r c
 
 -- CHAINS: `|` joins conjunctions to a question, `&` units to a conjunction
 pub data Chain : Type 0 where
@@ -250,12 +263,17 @@ unfoldable pub writeChain : (c : Chain) → List (TreeOf (item c)) → Bytes
 writeChain c [] = []
 writeChain c (i ∷ is) = sign c ∷ (textOf (item c) i ++ writeChain c is)
 
+-- what was made up to s is, with these items behind it, made up to r
+abbrev pub GoesOn : (c : Chain) → Bytes → State → State → List (TreeOf (item c)) → Type 0
+GoesOn c t s r is = (o : State) (q : TreeOf (whole c)) → o .depth ≡ s .depth → MadeOf (whole c) t o s q
+    → MadeOf (whole c) t o r (grown c q is)
+
 -- what was read before s is gone on with to r
 pub record Extends (c : Chain) (t : Bytes) (s r : State) : Type 0 where
   pub goes : Goes t s r 0
-  pub sound : r .ok ≡ true → (s .ok ≡ true) × ((is : List (TreeOf (item c))) × ((o : State) (q : TreeOf (whole c)) → o .depth ≡ s .depth → MadeOf (whole c) t o s q → MadeOf (whole c) t o r (grown c q is)))
-  pub complete : s .ok ≡ true → (is : List (TreeOf (item c))) (z : Bytes) → drop (s .at) t ≡ writeChain c is ++ z → Follows (whole c) (getD z 0 0)
-      → (r .ok ≡ true) × ((o : State) (q : TreeOf (whole c)) → o .depth ≡ s .depth → MadeOf (whole c) t o s q → MadeOf (whole c) t o r (grown c q is))
+  pub sound : r .ok ≡ true → (s .ok ≡ true) × ((is : List (TreeOf (item c))) × GoesOn c t s r is)
+  pub complete : s .ok ≡ true → (is : List (TreeOf (item c))) (z : Bytes) → drop (s .at) t ≡ writeChain c is ++ z
+      → Follows (whole c) (getD z 0 0) → (r .ok ≡ true) × GoesOn c t s r is
 
 -- a quoted word is read, and its entry added
 abbrev pub afterQuoted : State → ℕ → Quoted → State

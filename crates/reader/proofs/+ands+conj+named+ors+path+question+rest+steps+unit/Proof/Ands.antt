@@ -1,5 +1,5 @@
--- `question::ands` meets its contract, at the measure t.
-use mathlib.Core.Path.{_≡_, sym, _∙_}
+-- `reader::ands` meets its contract, at the measure t.
+use mathlib.Core.Path.{sym, _∙_}
 use native.Mathlib.Omega.{arith}
 use borrow.Author.Needs.{needs}
 use lib.Dec.{lit<}

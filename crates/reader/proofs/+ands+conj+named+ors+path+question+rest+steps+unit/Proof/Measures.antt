@@ -1,6 +1,5 @@
 -- The measure of each reader: seven times the bytes that are left, and its rank among the calls that take no byte.
-use Prim.Native.Nat.{ℕ, _+_, _-_, _*_, _<_}
-use lib.ListN.{length}
+use Prim.Native.Nat.{ℕ, _<_}
 use borrow.Fn.Kinds.{In}
 use borrow.Fn.PlainCycle.{Measures, is, falls, and}
 use Rattle.reader.proofs.Ready.{size}

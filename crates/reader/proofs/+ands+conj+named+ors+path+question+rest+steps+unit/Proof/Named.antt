@@ -1,11 +1,8 @@
--- `question::named` meets its contract, at the measure t.
-use mathlib.Core.Path.{_≡_, refl, sym, ap, _∙_}
+-- `reader::named` meets its contract, at the measure t.
+use mathlib.Core.Path.{_≡_}
 use native.Mathlib.Omega.{arith}
 use native.Mathlib.Nat.{add-sub-cancel-left}
-use borrow.Author.Needs.{needs}
-use lib.Dec.{lit<, lit≤}
-use Rattle.meaning.specs.Bytes.{ascii}
-use Rattle.meaning.specs.Question.{isLetter}
+use lib.Dec.{lit<}
 use Rattle.reader.specs.inner.Reading.{Form}
 use Rattle.reader.proofs.Ready.{few-read, call-name}
 use Rattle.reader.proofs.Walk.{afterName, name-long, name-made}

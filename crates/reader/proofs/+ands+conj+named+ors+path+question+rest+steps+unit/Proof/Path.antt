@@ -1,11 +1,9 @@
--- `question::path` meets its contract, at the measure t.
-use mathlib.Core.Path.{_≡_, refl, sym, ap, _∙_}
+-- `reader::path` meets its contract, at the measure t.
+use mathlib.Core.Path.{refl, sym, _∙_}
 use native.Mathlib.Omega.{arith}
-use native.Mathlib.Nat.{add-sub-cancel-left}
 use borrow.Author.Needs.{needs}
 use lib.Dec.{lit<, lit≤}
 use Rattle.meaning.specs.Bytes.{ascii}
-use Rattle.meaning.specs.Question.{isLetter}
 use Rattle.reader.specs.inner.Reading.{Form}
 use Rattle.reader.proofs.Ready.{few-read, call-same, call-bytes}
 use Rattle.reader.proofs.Units.{path-deep, path-plain}

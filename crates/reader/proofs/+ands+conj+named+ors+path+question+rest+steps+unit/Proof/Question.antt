@@ -1,4 +1,4 @@
--- `question::question` meets its contract, at the measure t.
+-- `reader::question` meets its contract, at the measure t.
 use lib.Dec.{lit<}
 use Rattle.reader.specs.inner.Reading.{Chain}
 use Rattle.reader.proofs.Ready.{call-same, call-after}

@@ -1,10 +1,8 @@
--- `question::steps` meets its contract, at the measure t.
-use mathlib.Core.Path.{_≡_, refl, sym, ap, _∙_}
+-- `reader::steps` meets its contract, at the measure t.
+use mathlib.Core.Path.{sym, ap, _∙_}
 use native.Mathlib.Omega.{arith}
-use native.Mathlib.Nat.{add-sub-cancel-left}
 use borrow.Author.Needs.{needs}
-use lib.Dec.{lit<, lit≤}
-use Rattle.meaning.specs.Bytes.{ascii}
+use lib.Dec.{lit<}
 use Rattle.meaning.specs.Question.{isLetter}
 use Rattle.reader.specs.inner.Reading.{Form}
 use Rattle.reader.proofs.Ready.{few-read, call-same, call-byte}

@@ -1,11 +1,9 @@
--- `question::unit` meets its contract, at the measure t.
-use mathlib.Core.Path.{_≡_, refl, sym, ap, _∙_}
+-- `reader::unit` meets its contract, at the measure t.
+use mathlib.Core.Path.{refl, sym, _∙_}
 use native.Mathlib.Omega.{arith}
-use native.Mathlib.Nat.{add-sub-cancel-left}
 use borrow.Author.Needs.{needs}
 use lib.Dec.{lit<, lit≤}
 use Rattle.meaning.specs.Bytes.{ascii}
-use Rattle.meaning.specs.Question.{isLetter}
 use Rattle.reader.specs.inner.Reading.{Form}
 use Rattle.reader.proofs.Ready.{few-read, call-same, call-byte, call-bytes, call-open, quoted-ready, shallow}
 use Rattle.reader.proofs.Units.{unit-not, unit-group, unit-label, unit-text, unit-path}
