@@ -23,7 +23,7 @@ use Rattle.reader.specs.Nesting.{nesting}
 use Rattle.reader.specs.Packed.{wordPlace, placedEntries, packed, emptyList}
 use Rattle.reader.specs.Read.{Written, Sized, Scan, ReadRefusal, Read}
 use Rattle.reader.specs.inner.Reading.{kept, emitted, Form, Ready, Reads, refused, Scanned}
-use Rattle.question.specs.Listed.{Keeps, listed}
+use Rattle.question.specs.Listed.{Place, Keeps, listed}
 use Rattle.reader.specs.Promise.{OneRead, ReadKeeps, ReadListed}
 use Rattle.reader.proofs.Emit.{kept-count}
 use Rattle.reader.proofs.Nesting.{reach-all}
