@@ -28,9 +28,6 @@ use Rattle.writing.proofs.LaidIn.{laid-in}
 use Rattle.question.proofs.Listed.{listed-length}
 
 -- a memory of zeros, of whatever length
-pub zeros-self : (m : List ℕ) (k : ℕ) → m ≡ replicate k 0 → m ≡ replicate (length m) 0
-zeros-self m k e = e ∙ ap (λ n. replicate n 0) (sym (ap length e ∙ length-replicate k 0))
-
 pub zeros-as : (m : List ℕ) (k n : ℕ) → m ≡ replicate k 0 → k ≡ n → m ≡ replicate n 0
 zeros-as m k n e q = e ∙ ap (λ n. replicate n 0) q
 
@@ -105,10 +102,10 @@ module _ (l : L.List) (t : Bytes) (F : Fragment) (part number : ℕ) (keeps : Ke
     unfolding laidDown
     late-short e q h p k z = rw (e, q) (record { late = passed h (refused (λ u. omega (arith, p, k))); size-is = refl; zeros = z; buffer = refl })
 
-    pub late-done : {n k need : ℕ} {m work′ out′ : List ℕ} → 4 * size + 12288 ≤ length m → Within size (l .count) o m k → need ≡ length (bytes c) → need ≤ length out
-        → Written 12 (replyIn number part (l .count) (F .rows) m (4 * size) k 0 (2 * size)) out out′ n → work′ ≡ replicate (length work) 0 → Worked c work out 0 n work′ out′
+    pub late-done : {r size′ n k need : ℕ} {m work′ out′ : List ℕ} → r ≡ 0 → size′ ≡ n → 4 * size + 12288 ≤ length m → Within size (l .count) o m k → need ≡ length (bytes c) → need ≤ length out
+        → Written 12 (replyIn number part (l .count) (F .rows) m (4 * size) k 0 (2 * size)) out out′ n → work′ ≡ replicate (length work) 0 → Worked c work out r size′ work′ out′
     unfolding laidDown
-    late-done {n} {k} {need} {m} {work′} {out′} room w p q x z = record { late = passed (w .few) (passed (omega (arith, p, q)) granted); size-is = y .size-is; zeros = z; buffer = y .bytes }
+    late-done {r} {size′} {n} {k} {need} {m} {work′} {out′} e f room w p q x z = rw (e, f) (record { late = passed (w .few) (passed (omega (arith, p, q)) granted); size-is = y .size-is; zeros = z; buffer = y .bytes })
       where
         y : Written 12 (laid c) out out′ n
         y = subst (λ r. Written 12 r out out′ n) (ap (λ k. replyIn number part (l .count) (F .rows) m (4 * size) k 0 (2 * size)) (w .count) ∙ kept room (w .few) (w .held) .1) x

@@ -1,5 +1,5 @@
 // A depot's work on one fragment: the rules of list and fragment, the formula in lent memory, and the reply written from it.
-use formula::clear;
+use formula::fill;
 use formula::formula;
 use fragment::fragment_ok;
 use question::List;
@@ -9,7 +9,7 @@ use writing::reply_write;
 use writing::stand_ins;
 ghost use mathlib.Core.Path.{_≡_};
 ghost use Prim.Native.Nat.{_+_, _*_, _/_, _≤_};
-ghost use lib.ListN.{length};
+ghost use lib.ListN.{length, replicate};
 ghost use Rattle.meaning.specs.Fragment.{Sound};
 ghost use Rattle.question.specs.Listed.{Keeps};
 ghost use Rattle.fragment.specs.Lent.{lent};
@@ -32,6 +32,15 @@ fn refusing(n: usize) -> Answer
     }
 }
 
+// The answer once work is done, which leaves the memory all zero.
+fn ended(work: &mut [u16], refusal: usize, size: usize) -> Answer
+    ensures { λ r. ⌜ (r .refusal ≡ refusal) × (r .size ≡ size) ⌝ }
+    ensures { λ _. ⌜ now (work .exit) ≡ replicate (length (now (work .entry))) 0 ⌝ }
+{
+    fill(work, 0);
+    Answer { refusal, size }
+}
+
 // The formula, and the reply written from it, for a list and a fragment that keep their rules and memory enough.
 fn worked(
     list: List,
@@ -48,19 +57,16 @@ fn worked(
     requires { ⌜ 4 * (length (now rows) / 6 * list .count) + 12288 ≤ length (now work) ⌝ }
     ensures { λ r. ⌜ Worked (call list (now (text .entry)) (lent (now (rows .entry)) (now (pool .entry))) fragment number) (now (work .entry)) (now (out .entry)) (r .refusal) (r .size) (now (work .exit)) (now (out .exit)) ⌝ }
 {
-    clear(work);
     let steps = formula(list, text, rows, pool, work);
     if steps.over {
-        clear(work);
-        return refusing(8);
+        return ended(work, 8, 0);
     }
     let made = steps.count;
     let entries = list.count;
     let ins = stand_ins(rows);
     let need = reply_size(12, entries, ins, made);
     if out.len() < need {
-        clear(work);
-        return refusing(9);
+        return ended(work, 9, 0);
     }
     let cells = rows.len() / 6 * entries;
     let size = reply_write(
@@ -76,8 +82,7 @@ fn worked(
         0,
         2 * cells,
     );
-    clear(work);
-    Answer { refusal: 0, size }
+    ended(work, 0, size)
 }
 
 // A depot's reply to a question about its fragment.

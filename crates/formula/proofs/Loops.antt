@@ -50,9 +50,9 @@ module _ {A : Type 0} (f : ℕ → A → A) where
       none : k ≡ 0
       none = omega arith
 
--- zeros up to the end are zeros everywhere
-pub cleared : (w w₀ : List ℕ) (i : ℕ) → i ≤ length w₀ → length w₀ ≤ i → w ≡ replicate i 0 ++ drop i w₀ → w ≡ replicate (length w₀) 0
-cleared w w₀ i h k e = e ∙ simp (le-antisymm h k, drop-length, append-nil)
+-- filled up to the end is filled everywhere
+pub filled : (x : ℕ) (w w₀ : List ℕ) (i : ℕ) → i ≤ length w₀ → length w₀ ≤ i → w ≡ replicate i x ++ drop i w₀ → w ≡ replicate (length w₀) x
+filled x w w₀ i h k e = e ∙ simp (le-antisymm h k, drop-length, append-nil)
 
 -- few rows of few entries
 pub few : {p n : ℕ} → p ≤ 512 → n ≤ 32 → p * (2 * n) ≤ 32768

@@ -6,7 +6,7 @@ use native.Mathlib.Decide.{ℕ-discrete, decLt}
 use mathlib.Core.Path.{_≡_, refl, sym, ap, _∙_, subst}
 use mathlib.Core.Bool.{Bool, true, false, cond}
 use mathlib.Core.List.{List, []}
-use lib.ListN.{length, getD, replicate, getD-replicate}
+use lib.ListN.{length, getD, replicate, getD-replicate, length-replicate}
 use lib.Dec.{ltb}
 use borrow.Author.Tests.{ne-eqb, lt-ltb, le-ltb}
 use Rattle.meaning.specs.Bytes.{Bytes, labelIs, textIs}
@@ -190,10 +190,10 @@ module _ (l : L.List) (t : Bytes) (F : Fragment) (number : ℕ) (sound : Sound n
       both k S = omega (arith, sweep-grows R es v d k S, row-grows R es v d 0 (sweep formula R es v d k S))
 
   -- THE END, from a memory that is all zero
-  pub made : (m : List ℕ) (w : St) → 4 * size + 12288 ≤ length m → m ≡ replicate (length m) 0 → w ≡ sweepF l t F size (rowCount F) (st m 0)
+  pub made : (m : List ℕ) (k : ℕ) (w : St) → 4 * size + 12288 ≤ length m → m ≡ replicate k 0 → w ≡ sweepF l t F size (rowCount F) (st m 0)
       → Made size n (laidRun R es) (w .mem) (w .steps) (ltb 4096 (w .steps))
   unfolding run numbers
-  made m w room zeros e = subst (λ x. Made size n (laidRun R es) (x .mem) (x .steps) (ltb 4096 (x .steps))) (sym (e ∙ ap (λ k. downFrom f k (st m 0)) (sym rows)))
+  made m k w room zeros e = subst (λ x. Made size n (laidRun R es) (x .mem) (x .steps) (ltb 4096 (x .steps))) (sym (e ∙ ap (λ k. downFrom f k (st m 0)) (sym rows)))
       (made-of size n (laidRun R es) (downFrom f (suc (R .last)) (st m 0) .mem) (downFrom f (suc (R .last)) (st m 0) .steps) (sweep-sim (R .last) (st m 0) S₀ (omega (arith, rows)) refl (omega arith) start))
     where
       rows : suc (R .last) ≡ rowCount F
@@ -203,7 +203,7 @@ module _ (l : L.List) (t : Bytes) (F : Fragment) (number : ℕ) (sound : Sound n
       S₀ = record { st = []; c = λ r e. Ref.low; d = λ r e. Ref.low }
 
       zero-at : (i : ℕ) → i < 4 * size → getD m i 0 ≡ 0
-      zero-at i h = ap (λ l. getD l i 0) zeros ∙ getD-replicate (length m) i 0 0 (omega arith)
+      zero-at i h = ap (λ l. getD l i 0) zeros ∙ getD-replicate k i 0 0 (omega (arith, ap length zeros, length-replicate {A = ℕ} k 0))
 
       inside : {r e : ℕ} → r < suc (R .last) → e < n → r * n + e < size
       inside {r} {e} h k = omega (arith, block n {k = r} {r = rowCount F} (omega (arith, rows)))

@@ -417,27 +417,28 @@ pub struct Steps {
     pub over: bool,
 }
 
-// The formula of a fragment, from a memory that is all zero.
+// Every number becomes x.
+pub fn fill(work: &mut [u16], x: u16)
+    ensures { λ _. ⌜ now (work .exit) ≡ replicate (length (now (work .entry))) x ⌝ }
+{
+    let mut i = 0;
+    while i < work.len() {
+        work[i] = x;
+        i += 1;
+    }
+}
+
+// The formula of a fragment, whatever the memory held.
 pub fn formula(list: List, text: &[u8], rows: &[u32], pool: &[u8], work: &mut [u16]) -> Steps
     requires { ⌜ Ready list (now text) (lent (now rows) (now pool)) (now work) ⌝ }
     ensures { λ r. ⌜ Made (length (now (rows .entry)) / 6 * list .count) (list .count) (laidRun (rowsOf (lent (now (rows .entry)) (now (pool .entry)))) (listed list (now (text .entry)))) (now (work .exit)) (r .count) (r .over) ⌝ }
 {
     let count = rows.len() / 6;
     let size = count * list.count;
+    fill(work, 0);
     let n = swept(work, size, list, text, rows, pool, count);
     Steps {
         count: n,
         over: 4096 < n,
-    }
-}
-
-// All zero.
-pub fn clear(work: &mut [u16])
-    ensures { λ _. ⌜ now (work .exit) ≡ replicate (length (now (work .entry))) 0 ⌝ }
-{
-    let mut i = 0;
-    while i < work.len() {
-        work[i] = 0;
-        i += 1;
     }
 }

@@ -12,13 +12,12 @@ use Rattle.question.specs.declared.List as L
 use Rattle.question.specs.Listed.{Keeps}
 use Rattle.writing.specs.inner.Codes.{code, numbers}
 
--- what it works on: list and fragment keep their rules, the memory is large enough and all zero
+-- what it works on: list and fragment keep their rules, and the memory is large enough
 pub record Ready (l : L.List) (t : Bytes) (F : Fragment) (m : List ℕ) : Type 0 where
   pub number : ℕ
   pub sound : Sound number F
   pub keeps : Keeps l t
   pub room : 4 * (rowCount F * l .count) + 12288 ≤ length m
-  pub zeros : m ≡ replicate (length m) 0
 
 -- the numbers of the steps, and of V and D of row 0, for n entries and `size` = rows × entries
 pub record Laid (size n : ℕ) (o : Vectors Formulas.formula) (m : List ℕ) : Type 0 where

@@ -5,15 +5,15 @@ use Prim.Native.Nat.{ℕ, _-_, _≤_}
 use mathlib.Core.List.{List, _++_}
 use lib.ListN.{length, set, replicate, drop}
 use borrow.Author.Fill.{fill-more}
-use Rattle.formula.proofs.Loops.{cleared}
-use Rattle.formula.proofs.clear.Statement.{statement}
-use Rattle.formula.proofs.clear.Tie as tie
+use Rattle.formula.proofs.Loops.{filled}
+use Rattle.formula.proofs.fill.Statement.{statement}
+use Rattle.formula.proofs.fill.Tie as tie
 
 abbrev Inv-loop : tie.InvT-loop
-Inv-loop work₀ i₀ work i = (i ≤ length work₀) × (length work ≡ length work₀) × (work ≡ replicate i 0 ++ drop i work₀)
+Inv-loop work₀ x i₀ work i = (i ≤ length work₀) × (length work ≡ length work₀) × (work ≡ replicate i x ++ drop i work₀)
 
 abbrev μ-loop : tie.MeasureT-loop
-μ-loop work₀ i₀ work i = length work₀ - i
+μ-loop work₀ x i₀ work i = length work₀ - i
 
 loop-holds : tie.Need-loop-holds Inv-loop μ-loop
 loop-holds c = (search needs, refl, refl)
@@ -31,16 +31,16 @@ loop-less : tie.Need-loop-less Inv-loop μ-loop
 loop-less c = search needs
 
 loop-again : tie.Need-loop-again Inv-loop μ-loop
-loop-again c = (search needs, search needs, ap (λ (l : List ℕ). set l (c .before .loop .i) 0) (c .before .loop .inv .2) ∙ fill-more (c .before .loop .i) 0 (c .before .before .args .work .now) (omega arith))
+loop-again c = (search needs, search needs, ap (λ (l : List ℕ). set l (c .before .loop .i) (c .before .before .args .x)) (c .before .loop .inv .2) ∙ fill-more (c .before .loop .i) (c .before .before .args .x) (c .before .before .args .work .now) (omega arith))
 
 same-length : tie.Need-same-length Inv-loop μ-loop
 same-length c = search needs
 
 returns : tie.Need-returns Inv-loop μ-loop
-returns c = cleared _ _ _ (c .before .loop .inv .0) (omega arith) (c .before .loop .inv .2)
+returns c = filled _ _ _ _ (c .before .loop .inv .0) (omega arith) (c .before .loop .inv .2)
 
-pub clear-spec : {M : Type 1} → statement M
-clear-spec =
+pub fill-spec : {M : Type 1} → statement M
+fill-spec =
     tie.close
     (tie.spec
     Inv-loop
