@@ -129,19 +129,19 @@ module _ (d : Record) (store s : Bytes) (wide : Sizes (d .question)) (p : Passed
   shaped-kept : {r : Reply} → Shaped q r → Shaped q′ r
   shaped-kept x = record { fragment-in = x .fragment-in; entries-same = x .entries-same; children = x .children }
 
-  own-new : Own q′ store′ f
+  own-new : Own q′ (partOf q′ store′ f) f
   own-new = reply-own (record { reply = p .reply; free = record { is = subst (λ z. Is 12 z (p .reply)) (sym part-new) (p .is); number-same = p .number-same; shaped = shaped-kept (p .shaped) }; own = refl })
 
-  own-kept : {g : ℕ} → Heard q g → Own q′ store′ g
+  own-kept : {g : ℕ} → Heard q g → Own q′ (partOf q′ store′ g) g
   own-kept {g} h =
       let w = own-reply (o .laid .replies g h) in
       reply-own (record { reply = w .reply; free = record { is = subst (λ z. Is 12 z (w .reply)) (sym (part-kept h)) (w .free .is); number-same = w .free .number-same; shaped = shaped-kept (w .free .shaped) }; own = w .own })
 
-  replies-kept : (g : ℕ) → Heard q′ g → Own q′ store′ g
+  replies-kept : (g : ℕ) → Heard q′ g → Own q′ (partOf q′ store′ g) g
   replies-kept g h = go (ℕ-discrete g f)
     where
-      go : Dec (g ≡ f) → Own q′ store′ g
-      go (yes e) = subst (Own q′ store′) (sym e) own-new
+      go : Dec (g ≡ f) → Own q′ (partOf q′ store′ g) g
+      go (yes e) = subst (λ z. Own q′ (partOf q′ store′ z) z) (sym e) own-new
       go (no n) = own-kept (heard-old n h)
 
   abbrev InOld : ℕ → ℕ → Type 0

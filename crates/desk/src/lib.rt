@@ -138,7 +138,8 @@ fn why(desk: Record, store: &[u8], s: &[u8]) -> u8
         return j;
     }
     let h = header(s);
-    if is_heard(q, h.fragment as usize) {
+    let heard = q.heard;
+    if is_heard(&heard, h.fragment as usize) {
         return 16;
     }
     let used = desk.used;

@@ -1,5 +1,6 @@
 -- The values of steps and references, over any truth values.
-use Prim.Native.Nat.{ℕ, suc, _<_}
+use Prim.Native.Nat.{ℕ, zero, suc, _<_}
+use native.Mathlib.Omega.{arith}
 use mathlib.Core.Path.{_≡_, refl, sym, ap, ap₂, _∙_}
 use mathlib.Core.List.{List, [], _∷_, _++_}
 use lib.ListN.{length, take, set}
@@ -55,3 +56,34 @@ module _ (B : Truth) (α : ℕ → B .X) where
 
   pub value-is : (n m : ℕ) (s : List Step) (vs : List (B .X)) (r : Ref) → take m vs ≡ stepValues B α [] s → Result n m r → refValue B α vs r ≡ value B α s r
   value-is n m s vs r e h = sym (ref-take n m vs r h) ∙ ap (λ (x : List (B .X)). refValue B α x r) e
+
+-- variables that agree below n give the same values
+module _ (B : Truth) (n : ℕ) (α β : ℕ → B .X) (h : (x : ℕ) → x < n → α x ≡ β x) where
+  result-same : (m : ℕ) (vs : List (B .X)) (r : Ref) → Result n m r → refValue B α vs r ≡ refValue B β vs r
+  result-same m vs Ref.low k = refl
+  result-same m vs Ref.high k = refl
+  result-same m vs (Ref.var x) k = h x k
+  result-same m vs (Ref.step x) k = refl
+
+  operand-same : (m : ℕ) (vs : List (B .X)) (r : Ref) → Operand n m r → refValue B α vs r ≡ refValue B β vs r
+  operand-same m vs Ref.low k = refl
+  operand-same m vs Ref.high k = refl
+  operand-same m vs (Ref.var x) k = h x k
+  operand-same m vs (Ref.step x) k = refl
+
+  step-same : (m : ℕ) (vs : List (B .X)) (t : Step) → Operands n m t → stepValue B α vs t ≡ stepValue B β vs t
+  step-same m vs (Step.and a b) k = ap₂ (B .and) (operand-same m vs a (k .0)) (operand-same m vs b (k .1))
+  step-same m vs (Step.or a b) k = ap₂ (B .or) (operand-same m vs a (k .0)) (operand-same m vs b (k .1))
+  step-same m vs (Step.not a) k = ap (B .neg) (operand-same m vs a k)
+
+  snoc : (γ : ℕ → B .X) (m : ℕ) (g : ℕ → Step) → stepValues B γ [] (tabulated (suc m) 0 g) ≡ stepValues B γ [] (tabulated m 0 g) ++ (stepValue B γ (stepValues B γ [] (tabulated m 0 g)) (g m) ∷ [])
+  snoc γ m g = ap (stepValues B γ []) (tab-snoc m g) ∙ values-append B γ [] (tabulated m 0 g) (g m ∷ []) ∙ one-step B γ (stepValues B γ [] (tabulated m 0 g)) (g m)
+
+  steps-same : (m : ℕ) (g : ℕ → Step) → ((i : ℕ) → i < m → Operands n i (g i)) → stepValues B α [] (tabulated m 0 g) ≡ stepValues B β [] (tabulated m 0 g)
+  steps-same zero g k = no-steps B α g ∙ sym (no-steps B β g)
+  steps-same (suc m) g k =
+      let e = steps-same m g (λ i l. k i (omega arith)) in
+      snoc α m g ∙ ap₂ (λ (x : List (B .X)) (y : B .X). x ++ (y ∷ [])) e (step-same m (stepValues B α [] (tabulated m 0 g)) (g m) (k m (omega arith)) ∙ ap (λ (x : List (B .X)). stepValue B β x (g m)) e) ∙ sym (snoc β m g)
+
+  pub value-same : (m : ℕ) (g : ℕ → Step) (r : Ref) → ((i : ℕ) → i < m → Operands n i (g i)) → Result n m r → value B α (tabulated m 0 g) r ≡ value B β (tabulated m 0 g) r
+  value-same m g r k l = result-same m (stepValues B α [] (tabulated m 0 g)) r l ∙ ap (λ (x : List (B .X)). refValue B β x r) (steps-same m g k)

@@ -4,15 +4,15 @@ use native.Mathlib.Omega.{arith}
 use Rattle.meaning.specs.Says.{aye, nay}
 use Rattle.reply.proofs.Tests.{says-yes, says-no}
 use Rattle.reply.proofs.Lists.{up-to-suc}
-use Rattle.whole.specs.Whole.{Heard}
+use Rattle.whole.specs.inner.Steps.{HeardIn}
 use Rattle.solving.proofs.all_heard.Statement.{statement}
 use Rattle.solving.proofs.all_heard.Tie as tie
 
 abbrev Inv-loop : tie.InvT-loop
-Inv-loop q parts f₀ f = (j : ℕ) → j < f → Heard q j
+Inv-loop parts heard f₀ f = (j : ℕ) → j < f → HeardIn heard j
 
 abbrev μ-loop : tie.MeasureT-loop
-μ-loop q parts f₀ f = parts - f
+μ-loop parts heard f₀ f = parts - f
 
 loop-holds : tie.Need-loop-holds Inv-loop μ-loop
 loop-holds c = λ j h. absurd (omega arith)
@@ -21,7 +21,7 @@ is-heard-requires : tie.Need-is-heard-requires Inv-loop μ-loop
 is-heard-requires c κs = omega arith
 
 returns : tie.Need-returns Inv-loop μ-loop
-returns c = nay (λ h. says-no (c .before .is-heard .ensures) (c .if1 .taken) (h (c .before .before .before .loop .f) (c .before .before .loop-test .taken)))
+returns c = nay (λ h. says-no (c .before .is-heard .ensures) (c .if1 .taken) (h (c .before .before .before .before .loop .f) (c .before .before .before .loop-test .taken)))
 
 add-f : tie.Need-add-f Inv-loop μ-loop
 add-f c = omega arith
@@ -30,7 +30,7 @@ loop-less : tie.Need-loop-less Inv-loop μ-loop
 loop-less c = omega arith
 
 loop-again : tie.Need-loop-again Inv-loop μ-loop
-loop-again c = λ j h. up-to-suc (λ j. Heard (c .before .before .before .before .args .q) j) (c .before .before .before .loop .f) (c .before .before .before .loop .inv) (says-yes (c .before .is-heard .ensures) (c .if1 .left)) j (omega arith)
+loop-again c = λ j h. up-to-suc (λ j. HeardIn (c .before .before .before .before .before .before .args .q .heard) j) (c .before .before .before .before .loop .f) (c .before .before .before .before .loop .inv) (says-yes (c .before .is-heard .ensures) (c .if1 .left)) j (omega arith)
 
 returns-2 : tie.Need-returns-2 Inv-loop μ-loop
 returns-2 c = aye (λ j h. c .before .loop .inv j (omega (arith, c .loop-test .left)))

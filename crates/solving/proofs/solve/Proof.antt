@@ -1,13 +1,14 @@
 -- `solving::solve` meets its contract.
 use mathlib.Core.Path.{_∙_}
 use native.Mathlib.Omega.{arith}
-use Rattle.solving.proofs.Replies.{small, row-here, row-lower}
+use Rattle.solving.proofs.Replies.{small, results-good}
+use Rattle.solving.proofs.Answers.{solves-row}
 use borrow.Author.Needs.{needs}
 use Rattle.solving.proofs.solve.Statement.{statement}
 use Rattle.solving.proofs.solve.Tie as tie
 
 header-requires : tie.Need-header-requires
-header-requires c κs = omega (arith, c .before .pre .head)
+header-requires c κs = search needs
 
 mul-a : tie.Need-mul-a
 mul-a c = search needs
@@ -15,21 +16,11 @@ mul-a c = search needs
 add-a : tie.Need-add-a
 add-a c = search needs
 
+gather-requires : tie.Need-gather-requires
+gather-requires c κs = search needs
+
 step-values-requires : tie.Need-step-values-requires
 step-values-requires c κs = search needs
-
-mul-b : tie.Need-mul-b
-mul-b c = search needs
-
-add-b : tie.Need-add-b
-add-b c = search needs
-
-results-requires : tie.Need-results-requires
-results-requires c κs =
-    let s = c .before .before .before .before .before .args .s .now in
-    let q = c .before .before .before .before .before .pre in
-    let H = c .before .before .before .header .ensures in
-    (q, H .entries-is, H .steps-is, omega (arith, small s q .all-room, H .entries-is, H .steps-is, H .ins-is), λ e l. rw (H .steps-is, H .ins-is) (q .v-good e (omega (arith, H .entries-is))))
 
 mul-results : tie.Need-mul-results
 mul-results c = search needs
@@ -37,20 +28,24 @@ mul-results c = search needs
 add-results : tie.Need-add-results
 add-results c = search needs
 
-results-requires-2 : tie.Need-results-requires-2
-results-requires-2 c κs =
-    let s = c .before .before .before .before .before .before .before .args .s .now in
-    let q = c .before .before .before .before .before .before .before .pre in
-    let H = c .before .before .before .before .before .header .ensures in
-    (q, H .entries-is, H .steps-is, omega (arith, small s q .all-room, H .entries-is, H .steps-is, H .ins-is), λ e l. rw (H .steps-is, H .ins-is, H .entries-is) (q .d-good e (omega (arith, H .entries-is))))
+mul-results-2 : tie.Need-mul-results-2
+mul-results-2 c = search needs
+
+mul-results-3 : tie.Need-mul-results-3
+mul-results-3 c = search needs
+
+results-requires : tie.Need-results-requires
+results-requires c κs =
+    let s = c .before .before .before .before .before .before .before .before .before .before .before .before .args .s .now in
+    let m = small s (c .before .before .before .before .before .before .before .before .before .before .before .before .pre .0) in
+    let H = c .before .before .before .before .before .before .before .before .before .before .header .ensures in
+    (c .before .before .before .before .before .before .before .before .before .before .before .before .pre .0, omega (arith, m .all-room, H .ins-is, H .steps-is, H .entries-is), omega (arith, c .before .before .before .before .before .before .before .before .before .before .before .before .pre .1, H .entries-le), c .before .before .before .before .before .before .before .before .before .before .before .before .pre .2 .rows-all, λ e l. rw (H .ins-is, H .steps-is) (results-good s (c .before .before .before .before .before .before .before .before .before .before .before .before .pre .0) e (omega (arith, H .entries-is, l))))
 
 returns : tie.Need-returns
 returns c =
-    let s = c .before .before .before .before .before .before .before .before .args .s .now in
-    let q = c .before .before .before .before .before .before .before .before .pre in
-    let H = c .before .before .before .before .before .before .header .ensures in (
-      c .before .before .results .ensures ∙ rw (H .steps-is, H .ins-is, H .entries-is) (row-here s q (c .before .before .before .before .before .before .before .before .args .v .now) (c .before .before .before .before .before .before .before .before .args .d .now) (c .before .before .before .before .step-values .result) (c .before .before .before .before .step-values .ensures)),
-      c .results2 .ensures ∙ rw (H .steps-is, H .ins-is, H .entries-is) (row-lower s q (c .before .before .before .before .before .before .before .before .args .v .now) (c .before .before .before .before .before .before .before .before .args .d .now) (c .before .before .before .before .step-values .result) (c .before .before .before .before .step-values .ensures)),
+    let H = c .before .before .before .before .before .before .before .before .before .before .before .header .ensures in (
+      record { rows-all = c .results .ensures .long ∙ c .before .before .before .before .before .before .before .before .before .before .before .before .before .pre .2 .rows-all; vars-all = c .before .before .before .before .before .before .before .gather .ensures .0; values-all = c .before .before .before .before .step-values .ensures .0 },
+      solves-row (c .before .before .before .before .before .before .before .before .before .before .before .before .before .args .s .now) (c .before .before .before .before .before .before .before .before .before .before .before .before .before .pre .0) (c .before .before .before .before .before .before .before .before .before .before .before .before .before .args .rows .now) (c .before .before .before .before .before .before .before .gather .last .1 .1 .1 .1 .0) (c .before .before .before .before .step-values .last .1 .1 .1 .1 .0) (c .results .last .1 .1 .1 .1 .1 .0) (c .before .before .before .before .before .before .before .before .before .before .before .before .before .args .f) (c .before .before .before .before .before .before .before .gather .ensures .1) (c .before .before .before .before .step-values .ensures .1) (rw (H .ins-is, H .steps-is, H .entries-is) at (c .results .ensures)),
     )
 
 pub solve-spec : {M : Type 1} → statement M
@@ -60,11 +55,11 @@ solve-spec =
     header-requires
     mul-a
     add-a
+    gather-requires
     step-values-requires
-    mul-b
-    add-b
-    results-requires
     mul-results
     add-results
-    results-requires-2
+    mul-results-2
+    mul-results-3
+    results-requires
     returns)
