@@ -47,7 +47,8 @@ pub record Agree (l l′ : L.List) : Type 0 where
   pub count : l .count ≡ l′ .count
   pub kinds : (i : ℕ) → i < l .count → getD (l .kinds) i 0 ≡ getD (l′ .kinds) i 0
   pub uses : (i : ℕ) → i < l .count
-      → placed (getD (l .kinds) i 0) (getD (l .left) i 0) (getD (l .right) i 0) ≡ placed (getD (l′ .kinds) i 0) (getD (l′ .left) i 0) (getD (l′ .right) i 0)
+      → placed (getD (l .kinds) i 0) (getD (l .left) i 0) (getD (l .right) i 0)
+      ≡ placed (getD (l′ .kinds) i 0) (getD (l′ .left) i 0) (getD (l′ .right) i 0)
 
 -- two lists that agree in what they use get the same answer and bytes
 abbrev pub UnusedIgnored : Type 0

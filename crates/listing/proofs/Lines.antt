@@ -3,7 +3,7 @@ use Prim.Native.Nat.{ℕ, zero, suc, _+_, _-_, _*_, _≤_, _<_}
 use native.Mathlib.Omega.{arith}
 use native.Mathlib.Decide.{decLt}
 use mathlib.Core.Path.{_≡_, refl, sym, ap, _∙_, subst}
-use mathlib.Core.List.{List, [], _∷_, _++_, append-assoc, append-nil}
+use mathlib.Core.List.{[], _++_, append-assoc, append-nil}
 use lib.ListN.{length, getD, take, drop, length-append, length-take}
 use lib.Seq.{take-length}
 use Rattle.meaning.specs.Bytes.{Bytes, ascii, word}
@@ -15,7 +15,7 @@ use Rattle.question.proofs.Listed.{listed-length}
 use Rattle.listing.specs.Listing.{decimal, shown, line, lines, listing, listingOf, Lists}
 use Rattle.listing.specs.inner.Page.{Puts}
 use Rattle.listing.specs.Promise.{OneListing, MostListing}
-use Rattle.listing.proofs.Pages.{puts-then, puts-cast, one-digit, two-digits, decimal-size}
+use Rattle.listing.proofs.Pages.{puts-then, puts-cast, one-digit, decimal-size}
 
 -- AN ENTRY of a kind that is known by a test
 pub points-at : {t : Bytes} {i k a b : ℕ} (m : ℕ) → k ≡ m → EntryRule t i k a b → Points (Inside t) i (placed m a b)

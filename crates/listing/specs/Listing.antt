@@ -44,6 +44,7 @@ listingOf l t = listing (listed l t)
 -- WHAT `question_listing` GIVES, and what the lent bytes hold afterwards: the listing's length, 0 where the list breaks its rules; and
 -- nothing is written but a whole listing, where there is room for it
 pub data Lists (l : L.List) (t old : Bytes) : ℕ → Bytes → Type 0 where
-  written : Keeps l t → length (listingOf l t) ≤ length old → Lists l t old (length (listingOf l t)) (listingOf l t ++ drop (length (listingOf l t)) old)
+  written : Keeps l t → length (listingOf l t) ≤ length old
+      → Lists l t old (length (listingOf l t)) (listingOf l t ++ drop (length (listingOf l t)) old)
   short : Keeps l t → length old < length (listingOf l t) → Lists l t old (length (listingOf l t)) old
   broken : (Keeps l t → ⊥) → Lists l t old 0 old

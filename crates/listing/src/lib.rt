@@ -2,10 +2,9 @@
 use question::List;
 use question::rules::list_ok;
 use question::rules::wide;
-ghost use mathlib.Core.Path.{_≡_};
 ghost use Prim.Native.Nat.{ℕ, _+_, _<_, _≤_};
 ghost use mathlib.Core.List.{_++_};
-ghost use lib.ListN.{length, take, drop};
+ghost use lib.ListN.{length};
 ghost use Rattle.meaning.specs.Bytes.{word, ascii};
 ghost use Rattle.question.specs.Listed.{entryOf, EntryRule, Keeps, listed};
 ghost use Rattle.listing.specs.Listing.{decimal, shown, line, lines, listing, Lists};

@@ -1,8 +1,7 @@
 // The list's rules (01, "The list of sub-questions").
 use crate::List;
 ghost use mathlib.Core.Path.{_≡_};
-ghost use Prim.Native.Nat.{ℕ, _+_, _<_, _≤_};
-ghost use lib.ListN.{length};
+ghost use Prim.Native.Nat.{_+_, _<_, _≤_};
 ghost use Rattle.meaning.specs.Says.{Says};
 ghost use Rattle.question.specs.Listed.{EntryRule, Keeps};
 
