@@ -1,4 +1,4 @@
--- WHAT IS PROVED of a depot's answers: each promise is a type, and proofs/ has an element of it under its name (`one-answer` of `OneAnswer`).
+-- WHAT IS PROVED of a depot's answers: each promise is a type, and proofs/ has an element under its name (`one-answer` of `OneAnswer`).
 use Prim.Native.Nat.{ℕ, _+_, _*_, _^_, _<_, _≤_}
 use mathlib.Core.Path.{_≡_}
 use mathlib.Core.Logic.{_⊎_}
@@ -58,9 +58,11 @@ SameUse Kind.unknown a b a′ b′ = Unit {0}
 pub record Agree (l l′ : L.List) : Type 0 where
   pub count : l .count ≡ l′ .count
   pub kinds : (i : ℕ) → i < l .count → getD (l .kinds) i 0 ≡ getD (l′ .kinds) i 0
-  pub uses : (i : ℕ) → i < l .count → SameUse (kindOf (getD (l .kinds) i 0)) (getD (l .left) i 0) (getD (l .right) i 0) (getD (l′ .left) i 0) (getD (l′ .right) i 0)
+  pub uses : (i : ℕ) → i < l .count
+      → SameUse (kindOf (getD (l .kinds) i 0)) (getD (l .left) i 0) (getD (l .right) i 0) (getD (l′ .left) i 0) (getD (l′ .right) i 0)
 
 -- two lists that agree in what they use get the same answer and bytes
 abbrev pub UnusedIgnored : Type 0
-UnusedIgnored = (l l′ : L.List) → Agree l l′ → (t : Bytes) (F : Fragment) (part number : ℕ) (work out : List ℕ) (r size : ℕ) (w o : List ℕ) (r′ size′ : ℕ) (w′ o′ : List ℕ)
-    → Answered (call l t F part number) work out r size w o → Answered (call l′ t F part number) work out r′ size′ w′ o′ → Same r size w o r′ size′ w′ o′
+UnusedIgnored = (l l′ : L.List) → Agree l l′ → (t : Bytes) (F : Fragment) (part number : ℕ) (work out : List ℕ)
+    → (r size : ℕ) (w o : List ℕ) (r′ size′ : ℕ) (w′ o′ : List ℕ) → Answered (call l t F part number) work out r size w o
+    → Answered (call l′ t F part number) work out r′ size′ w′ o′ → Same r size w o r′ size′ w′ o′

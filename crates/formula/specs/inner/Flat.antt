@@ -131,7 +131,8 @@ enterF size at e kind i j t s = thenD size at e (valueF size at kind i j t (s .m
 -- ONE ROW
 unfoldable pub entryF : L.List → Bytes → Fragment → ℕ → ℕ → ℕ → ℕ → St → St
 entryF l t F size at k e s =
-    enterF size at e (kindOf (getD (l .kinds) e 0)) (getD (l .left) e 0) (getD (l .right) e 0) (testF t F k (kindOf (getD (l .kinds) e 0)) (getD (l .left) e 0) (getD (l .right) e 0)) s
+    enterF size at e (kindOf (getD (l .kinds) e 0)) (getD (l .left) e 0) (getD (l .right) e 0)
+    (testF t F k (kindOf (getD (l .kinds) e 0)) (getD (l .left) e 0) (getD (l .right) e 0)) s
 
 abbrev pub visitF : L.List → Bytes → Fragment → ℕ → ℕ → ℕ → St → St
 visitF l t F size at k s = across (entryF l t F size at k) 0 (l .count) s
