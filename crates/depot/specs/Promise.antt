@@ -1,4 +1,4 @@
--- WHAT IS PROVED of a depot's answers: each promise is a type, and proofs/ has an element of it under its name (`one-answer` of `OneAnswer`).
+-- WHAT IS PROVED of a depot's answers: each promise is a type, and proofs/ has an element under its name (`one-answer` of `OneAnswer`).
 use Prim.Native.Nat.{ℕ, _+_, _*_, _^_, _<_, _≤_}
 use mathlib.Core.Path.{_≡_}
 use mathlib.Core.Logic.{_⊎_}
@@ -52,5 +52,6 @@ pub record Agree (l l′ : L.List) : Type 0 where
 
 -- two lists that agree in what they use get the same answer and bytes
 abbrev pub UnusedIgnored : Type 0
-UnusedIgnored = (l l′ : L.List) → Agree l l′ → (t : Bytes) (F : Fragment) (part number : ℕ) (work out : List ℕ) (r size : ℕ) (w o : List ℕ) (r′ size′ : ℕ) (w′ o′ : List ℕ)
-    → Answered (call l t F part number) work out r size w o → Answered (call l′ t F part number) work out r′ size′ w′ o′ → Same r size w o r′ size′ w′ o′
+UnusedIgnored = (l l′ : L.List) → Agree l l′ → (t : Bytes) (F : Fragment) (part number : ℕ) (work out : List ℕ)
+    → (r size : ℕ) (w o : List ℕ) (r′ size′ : ℕ) (w′ o′ : List ℕ) → Answered (call l t F part number) work out r size w o
+    → Answered (call l′ t F part number) work out r′ size′ w′ o′ → Same r size w o r′ size′ w′ o′

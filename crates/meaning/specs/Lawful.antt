@@ -19,7 +19,8 @@ module _ (Here Lower : ℕ → ℕ → Type 0) where
 
   pub record Lawful (n parts f : ℕ) (r : Reply) : Type 0 where
     pub onward : (g : ℕ) → List·Memᴰ g (r .ins) → (f < g) × (g < parts)
-    pub right : (S : Values Bool) → ((g : ℕ) → List·Memᴰ g (r .ins) → Right n g (S .v g) (S .d g)) → Right n f (hereOf bool n r S) (lowerOf bool n r S)
+    pub right : (S : Values Bool) → ((g : ℕ) → List·Memᴰ g (r .ins) → Right n g (S .v g) (S .d g))
+        → Right n f (hereOf bool n r S) (lowerOf bool n r S)
 
 -- what V and D of a list's entries mean in the joined register
 module _ (G : Register) (es : List (Entry Bytes)) where

@@ -1,4 +1,4 @@
--- WHAT IS PROVED OF THESE DEFINITIONS: each promise is a type, and proofs/ has an element of it under its name (`last-entry` of `LastEntry`).
+-- WHAT IS PROVED OF THESE DEFINITIONS: each promise is a type, and proofs/ has an element under its name (`last-entry` of `LastEntry`).
 use Prim.Native.Nat.{ℕ, suc, _-_, _≤_, _<_}
 use mathlib.Core.Path.{_≡_}
 use mathlib.Core.Bool.{Bool}
@@ -35,13 +35,16 @@ abbrev pub ParentIs : Type 0
 ParentIs = (G : Register) → Cut G → (u v : ℕ × ℕ) → RealIn G v → JoinedChild G u v ↔ Parent G (v .0) (v .1) u
 
 abbrev pub OneParent : Type 0
-OneParent = (G : Register) → Cut G → (v : ℕ × ℕ) → RealIn G v → v ≢ (0, 0) → (u : ℕ × ℕ) × Parent G (v .0) (v .1) u × ((w : ℕ × ℕ) → Parent G (v .0) (v .1) w → w ≡ u)
+OneParent = (G : Register) → Cut G → (v : ℕ × ℕ) → RealIn G v → v ≢ (0, 0)
+    → (u : ℕ × ℕ) × Parent G (v .0) (v .1) u × ((w : ℕ × ℕ) → Parent G (v .0) (v .1) w → w ≡ u)
 
 abbrev pub OneStandIn : Type 0
-OneStandIn = (G : Register) → Cut G → (f k f′ k′ g : ℕ) → f < parts G → f′ < parts G → StandsFor G f k g → StandsFor G f′ k′ g → (f ≡ f′) × (k ≡ k′)
+OneStandIn = (G : Register) → Cut G → (f k f′ k′ g : ℕ) → f < parts G → f′ < parts G
+    → StandsFor G f k g → StandsFor G f′ k′ g → (f ≡ f′) × (k ≡ k′)
 
 abbrev pub Children : Type 0
-Children = (G : Register) → Cut G → (f : ℕ) → f < parts G → (g : ℕ) → List·Memᴰ g (standIns (rowsIn G f) (suc (rowsIn G f .last))) ↔ List·Memᴰ g (childrenOf (G .layout) f)
+Children = (G : Register) → Cut G → (f : ℕ) → f < parts G → (g : ℕ)
+    → List·Memᴰ g (standIns (rowsIn G f) (suc (rowsIn G f .last))) ↔ List·Memᴰ g (childrenOf (G .layout) f)
 
 -- MANY BOXES: the reply laid down for each fragment is lawful
 abbrev pub DepotLawful : Type 0
@@ -60,7 +63,8 @@ Solves = (Here Lower : ℕ → ℕ → Type 0) (n parts : ℕ) → 0 < n → 0 <
 -- so of the replies laid down it says what the question means at the top row of the joined register
 abbrev pub DeskAnswer : Type 0
 DeskAnswer = (G : Register) → Cut G → (q : Question) (number : ℕ)
-    → (b : Bool) × (outcome (length (entries q)) (parts G) (λ f. some (laidDown (rowsIn G f) (entries q) number f)) ≡ said b) × Says (Holds (joined G) q (0, 0)) b
+    → (b : Bool) × (outcome (length (entries q)) (parts G) (λ f. some (laidDown (rowsIn G f) (entries q) number f)) ≡ said b)
+    × Says (Holds (joined G) q (0, 0)) b
 
 -- THE STEP BOUND, with the test that tells the open rows
 abbrev pub StepBound : Type 0

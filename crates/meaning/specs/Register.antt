@@ -83,4 +83,6 @@ module _ (G : Register) where
   unfoldable pub Parent : ℕ → ℕ → ℕ × ℕ → Type 0
   Parent g (suc s) u = u ≡ (g, rowsIn G g .parent (suc s))
   Parent zero zero u = ⊥
-  Parent (suc g) zero u = (k : ℕ) × StandsFor G (parentOf (G .layout) (suc g)) k (suc g) × (u ≡ (parentOf (G .layout) (suc g), rowsIn G (parentOf (G .layout) (suc g)) .parent k))
+  Parent (suc g) zero u =
+      (k : ℕ) × StandsFor G (parentOf (G .layout) (suc g)) k (suc g)
+      × (u ≡ (parentOf (G .layout) (suc g), rowsIn G (parentOf (G .layout) (suc g)) .parent k))

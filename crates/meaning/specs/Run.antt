@@ -49,7 +49,8 @@ module _ (A : Algebra) where
   valueOf lab txt (Entry.not q) s v c d = A .neg s (v q)
 
   -- at a real row, for each entry in order, the first being entry i: V by its kind, then D becomes V or D
-  unfoldable pub visit : (Bytes → Bool) → (Bytes → Bool) → (ℕ → A .Ref) → List (Entry Bytes) → ℕ → A .St → (ℕ → A .Ref) → (ℕ → A .Ref) → Vectors
+  unfoldable pub visit : (Bytes → Bool) → (Bytes → Bool) → (ℕ → A .Ref) → List (Entry Bytes) → ℕ
+      → A .St → (ℕ → A .Ref) → (ℕ → A .Ref) → Vectors
   visit lab txt c [] i s v d = record { st = s; v = v; d = d }
   visit lab txt c (e ∷ l) i s v d =
       let a = valueOf lab txt e s v c d in
