@@ -65,8 +65,8 @@ pub record AllTaken (A : Type 0) {t : Bytes} {F : Fragment} {old : Record} {numb
 abbrev pub ownSize : ℕ → ℕ
 ownSize n = (60 + 28 * n + 7) / 8
 
--- for every text that the reader has no reason to refuse, and every sound fragment without stand-ins: yes exactly when the question holds at
--- row 0, by 004's definition
+-- for every text that the reader has no reason to refuse, and every sound fragment without stand-ins: yes exactly when the question
+-- holds at row 0, by 004's definition
 abbrev pub Condition2 : Type 0
 Condition2 = (t : Bytes) → ReadRefusal t 0 → (w : Written t) (F : Fragment) → Sound 0 F → NoStandIn F
     → (old : Record) (number : ℕ) → old .last < number → number < 2 ^ 32 → (work : List ℕ) (out store : Bytes)

@@ -20,9 +20,18 @@ pool = ascii "firmsiteliftbrakeB17B09markdone"
 
 -- 0: firm, site under it, a stand-in for 1 under firm, one for 2 under site; 1: site, lift, brake "B17"; 2: lift, brake "B09", mark "done"
 abbrev pub fragment : ℕ → Fragment
-fragment zero = record { rows = 4294967295 ∷ 0 ∷ 0 ∷ 4 ∷ 0 ∷ 0 ∷ 0 ∷ 0 ∷ 4 ∷ 4 ∷ 0 ∷ 0 ∷ 0 ∷ 1 ∷ 1 ∷ 0 ∷ 0 ∷ 0 ∷ 1 ∷ 1 ∷ 2 ∷ 0 ∷ 0 ∷ 0 ∷ []; pool = pool }
-fragment (suc zero) = record { rows = 4294967295 ∷ 0 ∷ 4 ∷ 4 ∷ 0 ∷ 0 ∷ 0 ∷ 0 ∷ 8 ∷ 4 ∷ 0 ∷ 0 ∷ 1 ∷ 0 ∷ 12 ∷ 5 ∷ 17 ∷ 3 ∷ []; pool = pool }
-fragment (suc (suc f)) = record { rows = 4294967295 ∷ 0 ∷ 8 ∷ 4 ∷ 0 ∷ 0 ∷ 0 ∷ 0 ∷ 12 ∷ 5 ∷ 20 ∷ 3 ∷ 0 ∷ 0 ∷ 23 ∷ 4 ∷ 27 ∷ 4 ∷ []; pool = pool }
+fragment zero = record {
+  rows = 4294967295 ∷ 0 ∷ 0 ∷ 4 ∷ 0 ∷ 0 ∷ 0 ∷ 0 ∷ 4 ∷ 4 ∷ 0 ∷ 0 ∷ 0 ∷ 1 ∷ 1 ∷ 0 ∷ 0 ∷ 0 ∷ 1 ∷ 1 ∷ 2 ∷ 0 ∷ 0 ∷ 0 ∷ [];
+  pool = pool;
+}
+fragment (suc zero) = record {
+  rows = 4294967295 ∷ 0 ∷ 4 ∷ 4 ∷ 0 ∷ 0 ∷ 0 ∷ 0 ∷ 8 ∷ 4 ∷ 0 ∷ 0 ∷ 1 ∷ 0 ∷ 12 ∷ 5 ∷ 17 ∷ 3 ∷ [];
+  pool = pool;
+}
+fragment (suc (suc f)) = record {
+  rows = 4294967295 ∷ 0 ∷ 8 ∷ 4 ∷ 0 ∷ 0 ∷ 0 ∷ 0 ∷ 12 ∷ 5 ∷ 20 ∷ 3 ∷ 0 ∷ 0 ∷ 23 ∷ 4 ∷ 27 ∷ 4 ∷ [];
+  pool = pool;
+}
 
 abbrev pub register : Register
 register = record { layout = 255 ∷ 0 ∷ 0 ∷ []; fragment = fragment }

@@ -30,8 +30,9 @@ pub record LaidReply (number f : ℕ) (F : Fragment) (es : List (Entry Bytes)) (
   pub reply : replyIn number f (length es) (F .rows) work at steps v d ≡ laidDown (rowsOf F) es number f
 
 abbrev pub LaidIn : Type 0
-LaidIn = (number f : ℕ) (F : Fragment) → Sound f F → (es : List (Entry Bytes)) → 0 < length es → length es ≤ 32 → length (laidRun (rowsOf F) es .st) ≤ 4096
-    → (work : List ℕ) (at v d : ℕ) → LaidAt (rowsOf F) es work at v d → LaidReply number f F es work at (length (laidRun (rowsOf F) es .st)) v d
+LaidIn = (number f : ℕ) (F : Fragment) → Sound f F → (es : List (Entry Bytes)) → 0 < length es → length es ≤ 32
+    → length (laidRun (rowsOf F) es .st) ≤ 4096 → (work : List ℕ) (at v d : ℕ) → LaidAt (rowsOf F) es work at v d
+    → LaidReply number f F es work at (length (laidRun (rowsOf F) es .st)) v d
 
 abbrev pub OneWritten : Type 0
 OneWritten = (w : ℕ) (r : Reply) (old a b : Bytes) (m n : ℕ) → Written w r old a m → Written w r old b n → (a ≡ b) × (m ≡ n)
