@@ -41,11 +41,14 @@ static unsigned long read_units(const char *front, const char *unit, size_t time
     return question_read((const uint8_t *)text, length).refusal;
 }
 
+#define NAME "nnnnnnnnnnnnnnnnnnnnnnnnnnnnnnnnnnnnnnnnnnnnnnnnnnnnnnnnnnnnnnn"
+
 static void questions(void)
 {
     printf("questions\n");
     line("1 byte; none", read_text("."), read_text(""));
-    line("255 bytes; 256", read_units("abc", "/abcdef", 36, "", ""), read_units("abcd", "/abcdef", 36, "", ""));
+    /* Four names of 63 bytes and their signs are 255. */
+    line("255 bytes; 256", read_units(NAME, "/" NAME, 3, "", ""), read_units(NAME "n", "/" NAME, 3, "", ""));
     line("a name of 64 bytes; of 65", read_units("", "n", 64, "", ""), read_units("", "n", 65, "", ""));
     line("a quoted word of 64 bytes; of 65", read_units("text()=\"", "q", 64, "\"", ""), read_units("text()=\"", "q", 65, "\"", ""));
     line("quoted bytes from 0x20; 0x1F", read_text("text()=\" \""), read_text("text()=\"\x1f\""));
