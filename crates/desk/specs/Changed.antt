@@ -10,7 +10,15 @@ abbrev pub freshRecord : Record
 freshRecord = record {
   last = 0;
   used = 0;
-  question = record { number = 0; entries = 0; parts = 0; layout = replicate 32 0; heard = replicate 32 0; place = replicate 32 0; size = replicate 32 0 };
+  question = record {
+    number = 0;
+    entries = 0;
+    parts = 0;
+    layout = replicate 32 0;
+    heard = replicate 32 0;
+    place = replicate 32 0;
+    size = replicate 32 0;
+  };
 }
 
 -- a question just opened: nothing is heard or used, and past the layout stand zeros

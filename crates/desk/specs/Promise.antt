@@ -1,4 +1,4 @@
--- WHAT IS PROVED of the desk's calls: each promise is a type, and proofs/ has an element of it under its name (`one-opening` of `OneOpening`).
+-- WHAT IS PROVED of the desk's calls: each promise is a type, and proofs/ has an element under its name (`one-opening` of `OneOpening`).
 use Prim.Native.Nat.{ℕ, _≤_}
 use mathlib.Core.Path.{_≡_}
 use mathlib.Core.Logic.{_≢_}
@@ -22,7 +22,8 @@ OneAsking = (d : Record) (store : Bytes) (m n a b : ℕ) → Asks d store m a �
 
 -- ---- whole: a successful opening of any record, with any store, is whole; accepting and a refused opening keep it
 abbrev pub OpeningWhole : Type 0
-OpeningWhole = (d : Record) (layout : Bytes) (entries number : ℕ) (a : Record) → Opens d layout entries number 0 a → (store : Bytes) → Whole a store
+OpeningWhole = (d : Record) (layout : Bytes) (entries number : ℕ) (a : Record) → Opens d layout entries number 0 a
+    → (store : Bytes) → Whole a store
 
 abbrev pub RefusedOpeningKeeps : Type 0
 RefusedOpeningKeeps = (d : Record) (layout : Bytes) (entries number m : ℕ) (a : Record) → m ≢ 0 → Opens d layout entries number m a
@@ -30,7 +31,8 @@ RefusedOpeningKeeps = (d : Record) (layout : Bytes) (entries number m : ℕ) (a 
 
 -- (an array's length, which a record's type does not tell, is 32)
 abbrev pub AcceptingKeeps : Type 0
-AcceptingKeeps = (d : Record) (store s : Bytes) (m : ℕ) (a : Record) (x : Bytes) → Sizes (d .question) → Accepts d store s m a x → Whole d store → Whole a x
+AcceptingKeeps = (d : Record) (store s : Bytes) (m : ℕ) (a : Record) (x : Bytes) → Sizes (d .question) → Accepts d store s m a x
+    → Whole d store → Whole a x
 
 -- a fresh record is whole, with any store
 abbrev pub FreshWhole : Type 0
