@@ -19,7 +19,7 @@ pub struct Answer {
 
 // Where reading stands: whether all went well, the place in the text, the number of the entry that was read last, how many
 // brackets are open and the most that ever were, and the entries, of which the first 32 are kept.
-pub struct State {
+struct State {
     pub ok: bool,
     pub at: usize,
     pub top: usize,
