@@ -97,6 +97,11 @@ module _ (A : Algebra) (M : Reading A) (L : Laws A M) where
     value-is i n k (Entry.and a b) p s v c d hv hc hd = L .and-is _ _ _ _ _ (hv a (omega arith) (p .0)) (hv b (omega arith) (p .1))
     value-is i n k (Entry.not q) p s v c d hv hc hd = L .neg-is _ _ _ (hv q (omega arith) p)
 
+    visit-later : (l : List (Entry Bytes)) (i : ℕ) (c : ℕ → A .Ref) (s : A .St) (v d : ℕ → A .Ref) → M .Later s (visit A lab txt c l i s v d .st)
+    unfolding visit
+    visit-later [] i c s v d = L .same s
+    visit-later (e ∷ l) i c s v d = L .trans _ _ _ (L .trans _ _ _ (value-later e s v c d) (L .or-later _ _ (d i))) (visit-later l (suc i) c _ _ _)
+
     visit-is : (n i : ℕ) (l : List (Entry Bytes)) → length l + i ≡ n → Earlier i l → Agrees fin ρ i l → (c : ℕ → A .Ref) (s : A .St) (v d : ℕ → A .Ref)
         → Span s c kidIs 0 n → Span s v hereIs 0 i → Span s d lowerIs 0 i → Span s d deeperIs i n → Gives n s (visit A lab txt c l i s v d) hereIs lowerIs
     unfolding visit
@@ -107,7 +112,7 @@ module _ (A : Algebra) (M : Reading A) (L : Laws A M) where
         (span-snoc (b .0) v hereIs i (a .1) (span-keep v hereIs 0 i xs hv) (L .keep _ _ _ _ xb ma))
         (span-snoc (b .0) d lowerIs i (b .1) (span-keep d lowerIs 0 i xs hd) mb)
         (span-tail (b .0) d deeperIs i n (b .1) (span-keep d deeperIs i n xs ht)) in
-        record { later = L .trans _ _ _ xs (r .later); v = r .v; d = r .d }
+        record { later = visit-later (e ∷ l) i c s v d; v = r .v; d = r .d }
       where
         a : A .St × A .Ref
         a = valueOf A lab txt e s v c d
