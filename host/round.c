@@ -27,8 +27,9 @@ static const struct {
 };
 static const uint8_t layout[BOXES] = {REGISTER_BOX_TOP, 0, 0};
 
+/* (Of a multiple of eight bytes, so that no struct here has padding.) */
 struct reply {
-    uint8_t bytes[REGISTER_BOX_MOST_REPLY];
+    uint8_t bytes[(REGISTER_BOX_MOST_REPLY + 7) / 8 * 8];
     size_t size;
 };
 

@@ -16,7 +16,7 @@ struct depot_case {
     size_t pool_size;
     uint32_t fragment, number;
     size_t work_size, out_size;
-    uint8_t refusal;
+    size_t refusal;
     const uint8_t *reply;
     size_t size;
 };
