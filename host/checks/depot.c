@@ -62,7 +62,7 @@ static int right(const struct depot_case *c)
     int untouched = c->refusal == 5 || c->refusal == 6 || c->refusal == 7;
     int ok = a.refusal == c->refusal && a.size == size && buffer_right(c->reply, size) && memory_right(untouched ? 0 : c->work_size);
     if (!ok)
-        printf("%s: answer %zu with %zu bytes; 01 says %d with %zu\n", c->name, a.refusal, a.size, c->refusal, size);
+        printf("%s: answer %zu with %zu bytes; 01 says %zu with %zu\n", c->name, a.refusal, a.size, c->refusal, size);
     return ok;
 }
 
