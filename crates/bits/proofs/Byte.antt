@@ -60,7 +60,7 @@ bits_of_inj s t e hs ht h = fields_inj 8 s t e hs ht h
 parts : (x : ℕ) (s : List ℕ) (a n z : ℕ) → a + (n + z) ≡ 8
     → bits_of (x ∷ s) ≡ digits a (x / 2 ^ (n + z)) ++ (digits n (x / 2 ^ z) ++ (digits z x ++ bits_of s))
 unfolding bits_of fields
-parts x s a n z e = rw (← e, digits_add a (n + z) x, digits_add n z x) (simp append_assoc)
+parts x s a n z e = ap (λ w. digits w x ++ fields 8 s) (sym e) ∙ rw (digits_add a (n + z) x, digits_add n z x) (simp append_assoc)
 
 -- The bits of s around the n bits that end z bits before the end of byte k.
 module _ (s : List ℕ) (k a n z : ℕ) where

@@ -1,5 +1,6 @@
 // A bit cursor over bytes, most significant bit first. The specification is specs/Fields.antt: the bits of a list of bytes are
 // one list, `take` reads a run of it as a number, and `put` writes a number as a run of it and changes no other bit.
+#![tactic(auto)]
 
 ghost use Rattle.std.specs.Prelude.{◌≡◌, ◌+◌, ◌-◌, ◌*◌, ◌^◌, ◌≤◌, ◌<◌, true, false, length, replicate};
 ghost use Rattle.bits.specs.Bits.{digits};
@@ -7,13 +8,13 @@ ghost use Rattle.bits.specs.Fields.{field_at, Wrote};
 ghost use Rattle.bits.specs.inner.Stand.{BitsStand};
 
 // A place in a run of bits.
-#[derive(Drop)]
+#[derive(Clone, Copy)]
 pub struct Cursor {
     pub at: usize,
 }
 
 // A number that was read, and the place after it.
-#[derive(Drop)]
+#[derive(Clone, Copy)]
 pub struct Field {
     pub value: u32,
     pub next: Cursor,

@@ -1,4 +1,6 @@
 // A depot's work on one fragment: the rules of list and fragment, the formula in lent memory, and the reply written from it.
+#![tactic(auto)]
+
 ghost use Rattle.std.specs.Prelude.{◌≡◌, ◌+◌, ◌*◌, ◌/◌, ◌≤◌, length, replicate};
 ghost use Rattle.meaning.specs.Fragment.{Sound};
 ghost use Rattle.question.specs.Listed.{Keeps};
@@ -14,7 +16,7 @@ use writing::{reply_size, reply_write, stand_ins};
 
 // The number of refusal, 0 for none, and the reply's size in bytes, 0 on refusal.
 #[repr(C)]
-#[derive(Drop)]
+#[derive(Clone, Copy)]
 pub struct Answer {
     pub refusal: usize,
     pub size: usize,

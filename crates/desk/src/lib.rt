@@ -1,5 +1,7 @@
 // The desk: one question at a time, replies put one after another in a lent store, and the answer once every fragment is heard.
 // Anyone may fill a record with anything: accepting and asking first judge record and store whole.
+#![tactic(auto)]
+
 ghost use Rattle.std.specs.Prelude.{◌≡◌, ◌+◌, ◌^◌, ◌≤◌, ◌<◌, length};
 ghost use Rattle.meaning.specs.Register.{Layout};
 ghost use Rattle.desk.specs.Calls.{Opens, Why, Accepts, Asks};
@@ -10,7 +12,7 @@ use solving::{all_heard, answer};
 use whole::{Question, Record, is_heard, judge, layout_ok, whole};
 
 // A refusal (0: none), and the record afterwards.
-#[derive(Drop)]
+#[derive(Clone, Copy)]
 pub struct Answer {
     pub refusal: u8,
     pub desk: Record,
@@ -18,7 +20,7 @@ pub struct Answer {
 
 // A refusal (0: none), and what is said (0 where refused).
 #[repr(C)]
-#[derive(Drop)]
+#[derive(Clone, Copy)]
 pub struct Asked {
     pub refusal: u8,
     pub said: u8,
@@ -55,7 +57,8 @@ fn opened_as(layout: &[u8], entries: usize, number: u64) -> Record
     ensures { result ≡ opened_as layout.now entries number }
 {
     let mut parents = [0u8; 32];
-    let n = bytes::copy(layout, &mut parents);
+    let n = layout.len();
+    parents[..n].copy_from_slice(layout);
     Record {
         last: number,
         used: 0,
@@ -174,7 +177,8 @@ pub fn accepted(desk: Record, store: &mut [u8], reply: &[u8]) -> Answer
     }
     let h = header(reply);
     let used = desk.used;
-    let n = bytes::copy(reply, &mut store[used..]);
+    let n = reply.len();
+    store[used..used + n].copy_from_slice(reply);
     let d = noted_in(desk, h.fragment as usize, n);
     Answer {
         refusal: 0,

@@ -1,6 +1,8 @@
 // A depot's formula (01) in lent memory. For `size` = rows × entries the memory has V of every row and entry, then C, then D,
 // each `size` numbers, then as many unused, then the steps, three numbers each: operation, left and right reference.
 // A reference is one number: 0 false, 4096 true, 8192 + x a variable, 12288 + i a step.
+#![tactic(auto)]
+
 ghost use Rattle.std.specs.Prelude.{◌≡◌, cond, ℕ, ◌+◌, ◌*◌, ◌/◌, ◌<◌, ◌≤◌, length, replicate};
 ghost use Rattle.meaning.specs.Bytes.{word, same_bytes, label_is, text_is};
 ghost use Rattle.meaning.specs.Fragment.{RealRow, rows_of};
@@ -17,7 +19,7 @@ use writing::stand_ins;
 const TRUE: u16 = 4096;
 
 // A reference, and how many steps there are; 4097 where one did not fit.
-#[derive(Drop)]
+#[derive(Clone, Copy)]
 struct Coded {
     code: u16,
     steps: usize,
@@ -411,7 +413,7 @@ fn swept(
 }
 
 // How many steps there are, and whether there are over 4,096.
-#[derive(Drop)]
+#[derive(Clone, Copy)]
 pub struct Steps {
     pub count: usize,
     pub over: bool,

@@ -1,4 +1,6 @@
 // A fragment's rules (01, "The register and its fragments").
+#![tactic(auto)]
+
 ghost use Rattle.std.specs.Prelude.{◌≡◌, ◌≢◌, ℕ, ◌+◌, ◌*◌, ◌<◌, ◌≤◌, length, get_or, List};
 ghost use Rattle.meaning.specs.Says.{Says};
 ghost use Rattle.meaning.specs.Fragment.{RealRow, StandIn, RowRule, Sound};

@@ -1,4 +1,6 @@
 // Reads one written question from standard input, whole and without a newline, and prints its list, or `refused` and the number.
+#![tactic(auto)]
+
 use listing::question_listing;
 use question::List;
 use reader::question_read;

@@ -1,4 +1,6 @@
 // The listing of a list that a person reads: a line for the count, then a line for each entry.
+#![tactic(auto)]
+
 ghost use Rattle.std.specs.Prelude.{ℕ, ◌+◌, ◌<◌, ◌≤◌, ◌++◌, length};
 ghost use Rattle.meaning.specs.Bytes.{word, ascii};
 ghost use Rattle.question.specs.Listed.{entry_of, EntryRule, Keeps, listed};
@@ -13,7 +15,9 @@ fn put_bytes(page: &mut [u8], at: usize, w: &[u8]) -> usize
     requires { at + length w.now ≤ length page.old }
     ensures { Puts page.old page.new at result w.now }
 {
-    at + bytes::copy(w, &mut page[at..])
+    let next = at + w.len();
+    page[at..next].copy_from_slice(w);
+    next
 }
 
 fn put_number(page: &mut [u8], at: usize, n: usize) -> usize
@@ -160,7 +164,7 @@ pub extern "C" fn question_listing(list: List, text: &[u8], out: &mut [u8]) -> u
     let mut page = [0u8; 2369];
     let size = put_listing(&mut page, list, text);
     if size <= out.len() {
-        return bytes::copy(&page[..size], out);
+        out[..size].copy_from_slice(&page[..size]);
     }
     size
 }

@@ -1,4 +1,6 @@
 // The reader of written questions: functions for the forms of the grammar call each other, and the bytes left to read fall.
+#![tactic(auto)]
+
 ghost use Rattle.std.specs.Prelude.{◌≡◌, true, cond, ℕ, ◌+◌, ◌*◌, ◌<◌, ◌≤◌, [], ◌∷◌, length, drop};
 ghost use Rattle.meaning.specs.Question.{within as in_range, is_letter, is_name_byte, is_quotable};
 ghost use Rattle.reader.specs.Packed.{empty_list};
@@ -9,7 +11,7 @@ use question::List;
 
 // The answer to a text: 0 and its list, or the number of the refusal and the empty list.
 #[repr(C)]
-#[derive(Drop)]
+#[derive(Clone, Copy)]
 pub struct Answer {
     pub refusal: usize,
     pub list: List,
@@ -17,7 +19,7 @@ pub struct Answer {
 
 // Where reading stands: whether all went well, the place in the text, the number of the entry that was read last, how many
 // brackets are open and the most that ever were, and the entries, of which the first 32 are kept.
-#[derive(Drop)]
+#[derive(Clone, Copy)]
 struct State {
     pub ok: bool,
     pub at: usize,

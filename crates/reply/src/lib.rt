@@ -1,5 +1,7 @@
 // A reply and its bits: reading a field at its place, and the check that any bytes are a reply.
 // The width of a reference's number is a parameter `w` wherever a reference is read or written.
+#![tactic(auto)]
+
 pub mod judging;
 
 ghost use Rattle.std.specs.Prelude.{◌+◌, ◌*◌, ◌^◌, ◌≤◌, ◌<◌, length};
@@ -12,7 +14,7 @@ use bits::Cursor;
 pub const HEAD_TO: usize = 60;
 
 // The header's fields; entries in full.
-#[derive(Drop)]
+#[derive(Clone, Copy)]
 pub struct Head {
     pub number: u32,
     pub fragment: u32,
@@ -22,7 +24,7 @@ pub struct Head {
 }
 
 // A reference, and the place after it.
-#[derive(Drop)]
+#[derive(Clone, Copy)]
 pub struct RefField {
     pub kind: u32,
     pub number: usize,
@@ -30,7 +32,7 @@ pub struct RefField {
 }
 
 // A step: its operation, and the kinds and numbers of its references.
-#[derive(Drop)]
+#[derive(Clone, Copy)]
 pub struct StepField {
     pub op: u32,
     pub kind1: u32,

@@ -1,5 +1,7 @@
 // Solving the replies held, from the highest fragment down. A truth value is a number: 0 no, 1 yes.
 // A fragment's row has 64 places: V of each entry, then D. Variables stand in the same order, so that a stand-in's are its fragment's row.
+#![tactic(auto)]
+
 ghost use Rattle.std.specs.Prelude.{◌≡◌, [], ◌+◌, ◌*◌, ◌≤◌, ◌<◌, length, take, get_or};
 ghost use Rattle.meaning.specs.Says.{Says};
 ghost use Rattle.meaning.specs.Formula.{ref_value, step_value, step_values};

@@ -1,5 +1,7 @@
 // The register to try (01) through the real functions: each question is read, put to the three depots, and the desk gets their replies in
 // every order, each twice, and is asked after each.
+#![tactic(auto)]
+
 use depot::depot_reply;
 use desk::{accepted, asked_of, desk_fresh, opened};
 use question::List;
@@ -7,7 +9,7 @@ use reader::question_read;
 use whole::Record;
 
 // A desk, and whether all went as 01 says so far.
-#[derive(Drop)]
+#[derive(Clone, Copy)]
 struct Turn {
     right: bool,
     desk: Record,

@@ -1,4 +1,6 @@
 // The desk's record, and whether record and store are whole: layout rules, each reply free of 13 to 15, and the store laid with no gap and no overlap.
+#![tactic(auto)]
+
 ghost use Rattle.std.specs.Prelude.{◌≡◌, ◌⊎◌, ◌+◌, ◌*◌, ◌^◌, ◌≤◌, ◌<◌, length};
 ghost use Rattle.meaning.specs.Says.{Says};
 ghost use Rattle.meaning.specs.Register.{parent_of, Layout};
@@ -12,7 +14,7 @@ use reply::{header, take_in};
 // A question: its number (0: none is open), entry count, layout, and for each fragment whether it is heard (0: it is not),
 // where its reply starts in the store and how many bytes it has.
 #[repr(C)]
-#[derive(Drop)]
+#[derive(Clone, Copy)]
 pub struct Question {
     pub number: u64,
     pub entries: usize,
@@ -25,7 +27,7 @@ pub struct Question {
 
 // The last number opened, how many bytes of the store are used, and the question.
 #[repr(C)]
-#[derive(Drop)]
+#[derive(Clone, Copy)]
 pub struct Record {
     pub last: u64,
     pub used: usize,

@@ -1,4 +1,6 @@
 // Writing a reply from a depot's memory into a lent buffer: every bit past what is written stays as it was.
+#![tactic(auto)]
+
 ghost use Rattle.std.specs.Prelude.{◌≡◌, ◌++◌, ◌+◌, ◌*◌, ◌^◌, ◌≤◌, ◌<◌, length, get_or};
 ghost use Rattle.meaning.specs.Fragment.{num, row_count};
 ghost use Rattle.bits.specs.Bits.{digits};

@@ -1,0 +1,17 @@
+-- `bits::Cursor::pad` meets its contract. The invariant: the bits up to `at` are written.
+use native.Mathlib.Nat.{sub_self}
+use mathlib.Core.Bool.{false}
+use lib.ListN.{replicate}
+use Rattle.bits.specs.Fields.{Wrote}
+use Rattle.bits.proofs.Digits.{zeros_more}
+use Rattle.bits.proofs.Laws.{wrote_none, wrote_append}
+use Prim.Native.Nat.{◌+◌, ◌-◌, ◌≤◌}
+use mathlib.Core.Path.{◌≡◌}
+use native.Mathlib.Omega.{arith}
+use Rattle.bits.proofs.Cursor.pad.Given as goal
+
+abbrev pub invariant-loop-at : goal.invariant-loop-at
+invariant-loop-at l = (l.initial.at ≤ l.at) × (l.at ≤ l.to) × Wrote l.initial.buf l.buf l.initial.at l.at (replicate (l.at - l.initial.at) false)
+
+abbrev pub decreases-loop-at : goal.decreases-loop-at
+decreases-loop-at l = l.to - l.at
