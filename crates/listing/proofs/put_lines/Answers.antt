@@ -1,0 +1,34 @@
+use borrow.Author.Rules.{rules}
+use Prim.Native.Nat.{◌-◌, ◌≤◌}
+use native.Mathlib.Omega.{arith}
+use mathlib.Core.Path.{◌≡◌, refl}
+use lib.ListN.{length}
+use Rattle.listing.proofs.Lines.{Left, left_first, left_room, left_next, left_end}
+use Rattle.listing.proofs.put_lines.Goals as goal
+
+pub loop-i-init : goal.loop-i-init
+loop-i-init c = (omega arith, refl, left_first _ _ _ _)
+
+pub bounds-list-i : goal.bounds-list-i
+bounds-list-i c = omega (arith, c.requires.0.most)
+
+pub bounds-list-i-in-loop-i : goal.bounds-list-i-in-loop-i
+bounds-list-i-in-loop-i c = omega (arith, c.requires.0.most)
+
+pub bounds-list-i-in-loop-i-2 : goal.bounds-list-i-in-loop-i-2
+bounds-list-i-in-loop-i-2 c = omega (arith, c.requires.0.most)
+
+pub put_line-at-requires : goal.put_line-at-requires
+put_line-at-requires c = (omega (arith, c.loop-i-test.true, c.requires.0.most), (rw (c.wide-a.ensures.0, c.wide-b.ensures.0) (c.requires.0.each _ c.loop-i-test.true), rw (c.wide-a.ensures.0, c.wide-b.ensures.0) (left_room _ _ _ _ c.loop-i-test.true c.loop-i.invariant.2 (omega (arith, c.requires.1, c.loop-i.invariant.1)))))
+
+pub overflow_add-i : goal.overflow_add-i
+overflow_add-i c = omega (arith, c.requires.0.most)
+
+pub loop-i-smaller : goal.loop-i-smaller
+loop-i-smaller c = omega (arith, c.loop-i-test.true)
+
+pub loop-i-preserved : goal.loop-i-preserved
+loop-i-preserved c = (omega (arith, c.loop-i-test.true), search rules, left_next _ _ _ _ c.loop-i-test.true c.loop-i.invariant.2 (rw (c.wide-a.ensures.0, c.wide-b.ensures.0) at c.put_line-at.ensures))
+
+pub returns : goal.returns
+returns c = left_end _ _ _ _ c.loop-i-test.false c.loop-i.invariant.2
