@@ -5,7 +5,7 @@ use native.Mathlib.Decide.{dec_lt}
 use mathlib.Core.Path.{◌≡◌, refl, sym, ap, ◌∙◌, subst}
 use mathlib.Core.List.{[], ◌++◌, append_assoc, append-nil}
 use lib.ListN.{length, get_or, take, drop, length-append, length-take}
-use lib.Seq.{take-length}
+use lib.Seq.{length-take-le, take-length}
 use Rattle.meaning.specs.Bytes.{Bytes, ascii, word}
 use Rattle.meaning.specs.Entry.{Entry, Points}
 use Rattle.meaning.specs.Reply.{tabulated}
@@ -159,11 +159,11 @@ module _ (l : L.List) (t old : Bytes) (k : Keeps l t) {p page : Bytes} {n : ℕ}
   pub list_short : length old < n → Lists l t old n old
   list_short h = subst (λ n. Lists l t old n old) (sym size_is) (Lists.short k (omega (arith, size_is)))
 
-  pub list_written : (r : ℕ) (now : Bytes) → n ≤ length old → r ≡ length (take n page) → now ≡ take (length (take n page)) (take n page) ++ drop (length (take n page)) old → Lists l t old r now
-  list_written r now h e is = subst (λ x. Lists l t old r x) (sym whole) (subst (λ m. Lists l t old m (listing_of l t ++ drop (length (listing_of l t)) old)) (sym long) (Lists.written k (omega (arith, size_is))))
+  pub list_written : (now : Bytes) → n ≤ length old → n ≤ length page → now ≡ take n page ++ drop n old → Lists l t old n now
+  list_written now h le is = subst (λ x. Lists l t old n x) (sym whole) (subst (λ m. Lists l t old m (listing_of l t ++ drop (length (listing_of l t)) old)) (sym long) (Lists.written k (omega (arith, size_is))))
     where
-      long : r ≡ length (listing_of l t)
-      long = e ∙ ap length f.holds
+      long : n ≡ length (listing_of l t)
+      long = sym (length-take-le n page le) ∙ ap length f.holds
 
       whole : now ≡ listing_of l t ++ drop (length (listing_of l t)) old
-      whole = is ∙ ap (λ w. take (length w) w ++ drop (length w) old) f.holds ∙ ap (λ w. w ++ drop (length (listing_of l t)) old) (take-length (listing_of l t))
+      whole = is ∙ ap (λ w. w ++ drop n old) f.holds ∙ ap (λ m. listing_of l t ++ drop m old) long

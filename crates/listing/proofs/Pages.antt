@@ -1,4 +1,5 @@
 -- Bytes put on a page, one run behind the other.
+use borrow.Rule.Slice.PartMut.{put_mid}
 use Prim.Native.Nat.{ℕ, ◌+◌, ◌-◌, ◌/◌, ◌%◌, ◌≤◌, ◌<◌}
 use native.Mathlib.Omega.{arith}
 use native.Mathlib.Numerals.{add-one}
@@ -22,17 +23,13 @@ puts_then {p} {q} {r} {a} {b} {c} {v} {w} x y = record {
 pub puts_cast : {p q : Bytes} {a b : ℕ} {v w : Bytes} → v ≡ w → Puts p q a b v → Puts p q a b w
 puts_cast {p} {q} {a} {b} e x = subst (Puts p q a b) e x
 
--- a run copied into the page's part from a place on
-pub put_run : (page w part : Bytes) (place n : ℕ) → place + length w ≤ length page → n ≡ length w → part ≡ take (length w) w ++ drop (length w) (take (length page - place) (drop place page))
-    → Puts page (take place page ++ (part ++ drop (length page - place) (drop place page))) place (place + n) w
-put_run page w part place n h e is = record {
-  holds = rw (is, take-length w, e) (ap (λ l. take (place + length w) l) (grouped _ _) ∙ take_at _ _ _ long);
-  moves = ap (λ n. place + n) e;
+-- a run copied into the page from a place on
+pub put_run : (page w part : Bytes) (place k : ℕ) → place + length w ≤ length page → part ≡ w → Puts page (put_mid place k page part) place (place + length w) w
+put_run page w part place k h is = record {
+  holds = rw is (ap (λ l. take (place + length w) l) (sym (append_assoc (take place page) w _)) ∙ take_at _ _ _ long);
+  moves = refl;
 }
   where
-    grouped : (y z : Bytes) → take place page ++ ((w ++ y) ++ z) ≡ (take place page ++ w) ++ (y ++ z)
-    grouped y z = simp append_assoc
-
     long : length (take place page ++ w) ≡ place + length w
     long = length-append (take place page) w ∙ ap (λ n. n + length w) (length-take-le place page (omega arith))
 

@@ -10,19 +10,19 @@ pub loop-i-init : goal.loop-i-init
 loop-i-init c = (omega arith, refl, left_first _ _ _ _)
 
 pub bounds-list-i : goal.bounds-list-i
-bounds-list-i c = omega (arith, c.requires.0.most)
+bounds-list-i c = omega (arith, c.requires.keeps.most)
 
 pub bounds-list-i-in-loop-i : goal.bounds-list-i-in-loop-i
-bounds-list-i-in-loop-i c = omega (arith, c.requires.0.most)
+bounds-list-i-in-loop-i c = omega (arith, c.requires.keeps.most)
 
 pub bounds-list-i-in-loop-i-2 : goal.bounds-list-i-in-loop-i-2
-bounds-list-i-in-loop-i-2 c = omega (arith, c.requires.0.most)
+bounds-list-i-in-loop-i-2 c = omega (arith, c.requires.keeps.most)
 
 pub put_line-at-requires : goal.put_line-at-requires
-put_line-at-requires c = (omega (arith, c.loop-i-test.true, c.requires.0.most), (rw (c.wide-a.ensures.0, c.wide-b.ensures.0) (c.requires.0.each _ c.loop-i-test.true), rw (c.wide-a.ensures.0, c.wide-b.ensures.0) (left_room _ _ _ _ c.loop-i-test.true c.loop-i.invariant.2 (omega (arith, c.requires.1, c.loop-i.invariant.1)))))
+put_line-at-requires c = record { i_bound = omega (arith, c.loop-i-test.true, c.requires.keeps.most); entry_rule = rw (c.wide-a.ensures.0, c.wide-b.ensures.0) (c.requires.keeps.each _ c.loop-i-test.true); b_in_bounds = rw (c.wide-a.ensures.0, c.wide-b.ensures.0) (left_room _ _ _ _ c.loop-i-test.true c.loop-i.invariant.2 (omega (arith, c.requires.text_in_bounds, c.loop-i.invariant.1))) }
 
 pub overflow_add-i : goal.overflow_add-i
-overflow_add-i c = omega (arith, c.requires.0.most)
+overflow_add-i c = omega (arith, c.requires.keeps.most)
 
 pub loop-i-smaller : goal.loop-i-smaller
 loop-i-smaller c = omega (arith, c.loop-i-test.true)

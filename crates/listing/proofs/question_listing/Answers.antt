@@ -1,6 +1,7 @@
-use mathlib.Core.Path.{sym}
+use mathlib.Core.Path.{sym, ap}
+use mathlib.Core.List.{◌++◌}
 use native.Mathlib.Omega.{arith}
-use lib.ListN.{length-take}
+use lib.ListN.{length-take, drop}
 use lib.Seq.{length-take-le}
 use Rattle.listing.proofs.Lines.{size_most, list_short, list_written}
 use borrow.Author.Tests.{not-true, not-false}
@@ -18,14 +19,10 @@ put_listing-size-requires c = record { keeps = (says_true c.list_ok.ensures c.if
 pub slice_bounds-page-end : goal.slice_bounds-page-end
 slice_bounds-page-end c = omega (arith, size_most (says_true c.list_ok.ensures c.if-not-list_ok.false) c.put_listing-size.ensures)
 
-pub UNKNOWN-slice-aggregate-copy : goal.UNKNOWN-slice-aggregate-copy
-UNKNOWN-slice-aggregate-copy c = sym (length-take-le _ _ (omega (arith, size_most (says_true c.list_ok.ensures c.if-not-list_ok.false) c.put_listing-size.ensures)))
-
-pub UNKNOWN-copy-requires : goal.UNKNOWN-copy-requires
-UNKNOWN-copy-requires c = omega (arith, length-take c.put_listing-size.result c.put_listing-size.new.0, c.if-size-out.true)
-
 pub returns-then-size-out : goal.returns-then-size-out
-returns-then-size-out c = list_written _ _ _ (says_true c.list_ok.ensures c.if-not-list_ok.false) c.put_listing-size.ensures _ _ (omega (arith, c.if-size-out.true)) c.copy.ensures.0 c.copy.ensures.1
+returns-then-size-out c =
+    let keeps = says_true c.list_ok.ensures c.if-not-list_ok.false in
+    list_written _ _ _ keeps c.put_listing-size.ensures _ (omega (arith, c.if-size-out.true)) (omega (arith, size_most keeps c.put_listing-size.ensures)) (ap (λ w. w ++ drop c.put_listing-size.result c.args.out.now) c.copy_from_slice.ensures.after)
 
 pub returns-else-size-out : goal.returns-else-size-out
 returns-else-size-out c = list_short _ _ _ (says_true c.list_ok.ensures c.if-not-list_ok.false) c.put_listing-size.ensures (omega (arith, c.if-size-out.false))

@@ -1,0 +1,7 @@
+use Rattle.meaning.specs.Bytes.{label_is}
+use borrow.Author.Rules.{rules}
+use Rattle.formula.proofs.label_is.Goals as goal
+
+pub returns : goal.returns
+unfolding label_is
+returns c = c.same_word.ensures

@@ -1,0 +1,14 @@
+use borrow.Author.Rules.{rules}
+use native.Mathlib.Omega.{arith}
+use mathlib.Core.Path.{◌≡◌, refl}
+use Prim.Native.Nat.{◌+◌, ◌-◌, ◌≤◌}
+use lib.ListN.{length, length-set}
+use Rattle.formula.specs.inner.Flat.{across, var_f, stand_f}
+use Rattle.formula.proofs.Loops.{outset, onward, arrived, var_is}
+use Rattle.formula.proofs.stood.Given as goal
+
+abbrev pub invariant-loop-e : goal.invariant-loop-e
+invariant-loop-e l = (l.e ≤ l.count) × (length l.work ≡ length l.initial.work) × (l.x ≡ l.first + l.e) × (l.y ≡ l.first + (l.count + l.e)) × (across (var_f l.size l.at l.count l.first) l.e (l.count - l.e) l.work ≡ stand_f l.size l.at l.count l.first l.initial.work)
+
+abbrev pub decreases-loop-e : goal.decreases-loop-e
+decreases-loop-e l = l.count - l.e

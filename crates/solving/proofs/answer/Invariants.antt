@@ -1,0 +1,14 @@
+-- `solving::answer` meets its contract.
+use Prim.Native.Nat.{◌-◌, ◌≤◌}
+use mathlib.Core.Path.{refl}
+use native.Mathlib.Omega.{arith}
+use Rattle.whole.specs.Whole.{start_of, size_of}
+use Rattle.solving.specs.inner.Values.{Lent}
+use Rattle.solving.proofs.Answers.{part_end, sound_here, part_agree, Left, left_start, left_step, left_end}
+use Rattle.solving.proofs.answer.Given as goal
+
+abbrev pub invariant-loop-f : goal.invariant-loop-f
+invariant-loop-f l = (l.f ≤ l.q.parts) × Lent l.rows l.vars l.values × Left l.q l.store l.f l.rows
+
+abbrev pub decreases-loop-f : goal.decreases-loop-f
+decreases-loop-f l = l.f

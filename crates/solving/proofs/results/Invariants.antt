@@ -1,0 +1,18 @@
+-- `solving::results` meets its contract.
+use Prim.Native.Nat.{◌+◌, ◌-◌, ◌*◌, ◌≤◌}
+use mathlib.Core.Path.{◌≡◌, sym, ap, ◌∙◌}
+use native.Mathlib.Omega.{arith}
+use Rattle.meaning.specs.Formula.{ref_value}
+use Rattle.reply.specs.inner.Decode.{ref_at, steps_of}
+use Rattle.reply.specs.inner.Checked.{vars_of}
+use Rattle.reply.proofs.Judge.{ref_from_lem, ref_good}
+use Rattle.whole.specs.inner.Steps.{number_in}
+use Rattle.solving.specs.inner.Values.{truths, Put}
+use Rattle.solving.proofs.Replies.{small, few_vars, ref_wider, put_none, put_more}
+use Rattle.solving.proofs.results.Given as goal
+
+abbrev pub invariant-loop-e : goal.invariant-loop-e
+invariant-loop-e l = (l.e ≤ l.count) × (l.here ≡ l.at + 14 * l.e) × Put l.initial.rows l.base l.e (λ e. ref_value truths (number_in l.vars) l.values (ref_at 12 l.s (l.at + 14 * e))) l.rows
+
+abbrev pub decreases-loop-e : goal.decreases-loop-e
+decreases-loop-e l = l.count - l.e

@@ -1,0 +1,14 @@
+-- `whole::stands_for` meets its contract.
+use Prim.Native.Nat.{ℕ, ◌-◌, ◌≤◌, ◌<◌}
+use mathlib.Core.Path.{◌≡◌, sym, ◌∙◌}
+use native.Mathlib.Omega.{arith}
+use Rattle.meaning.specs.Says.{aye, nay}
+use Rattle.reply.specs.inner.Decode.{in_at}
+use Rattle.reply.proofs.Lists.{up_to_suc}
+use Rattle.whole.proofs.stands_for.Given as goal
+
+abbrev pub invariant-loop-i : goal.invariant-loop-i
+invariant-loop-i l = (l.i ≤ l.k) × ((j : ℕ) → j < l.i → in_at l.s j ≡ l.g → ⊥)
+
+abbrev pub decreases-loop-i : goal.decreases-loop-i
+decreases-loop-i l = l.k - l.i

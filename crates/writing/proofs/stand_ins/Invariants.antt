@@ -1,0 +1,16 @@
+-- `writing::stand_ins` meets its contract.
+use borrow.Author.Rules.{rules}
+use Prim.Native.Nat.{◌-◌, ◌≤◌}
+use mathlib.Core.Path.{◌≡◌, refl}
+use native.Mathlib.Omega.{arith}
+use lib.ListN.{length}
+use Rattle.writing.specs.inner.Codes.{bare}
+use Rattle.meaning.specs.Fragment.{num, row_count}
+use Rattle.writing.proofs.Codes.{row_few, first_ins, ins_none, ins_longer, ins_all}
+use Rattle.writing.proofs.stand_ins.Given as goal
+
+abbrev pub invariant-loop-k : goal.invariant-loop-k
+invariant-loop-k l = (l.k ≤ row_count (bare l.rows)) × (l.n ≡ length (first_ins l.rows l.k)) × (l.n ≤ l.k)
+
+abbrev pub decreases-loop-k : goal.decreases-loop-k
+decreases-loop-k l = row_count (bare l.rows) - l.k
