@@ -1,4 +1,5 @@
 -- What opening, accepting and asking have shown, on plain values.
+use borrow.Rule.Slice.PartMut.{put_mid}
 use Prim.Native.Nat.{ℕ, zero, suc, ◌+◌, ◌-◌, ◌≤◌, ◌<◌}
 use native.Mathlib.Omega.{arith}
 use native.Mathlib.Decide.{ℕ_discrete}
@@ -35,9 +36,8 @@ drop_zeros zero m = let e : m - zero ≡ m = omega arith in rw e refl
 drop_zeros (suc n) zero = let e : zero - suc n ≡ 0 = omega arith in rw e refl
 drop_zeros (suc n) (suc m) = let e : suc m - suc n ≡ m - n = omega arith in rw e (drop_zeros n m)
 
-pub opened_as_lem : (layout : Bytes) (n : ℕ) (l : Bytes) (entries number : ℕ) → n ≡ length layout → l ≡ take (length layout) layout ++ drop (length layout) (replicate 32 0)
-    → record { last = number; used = 0; question = record { number = number; entries = entries; parts = n; layout = l; heard = replicate 32 0; place = replicate 32 0; size = replicate 32 0 } } ≡ opened_as layout entries number
-opened_as_lem layout n l entries number e f = rw (e, f, take-length layout, drop_zeros (length layout) 32) refl
+pub opened_as_lem : (layout l : Bytes) (entries number : ℕ) → l ≡ layout → record { last = number; used = 0; question = record { number = number; entries = entries; parts = length layout; layout = l ++ drop (length layout) (replicate 32 0); heard = replicate 32 0; place = replicate 32 0; size = replicate 32 0 } } ≡ opened_as layout entries number
+opened_as_lem layout l entries number e = rw (e, drop_zeros (length layout) 32) refl
 
 module _ (d : Record) (layout : Bytes) (entries number : ℕ) where
   pub opens_10 : (OpenRules layout entries → ⊥) → Opens d layout entries number 10 d
@@ -98,10 +98,8 @@ why_taken {d} {store} (passed w (passed n (passed t (passed u (passed v (passed 
 pub taken_long : {d : Record} {store s : Bytes} → Taken d store s → 8 ≤ length s
 taken_long {d} {store} {s} t = omega (arith, (checked_of 12 s t.reply t.free.is).head)
 
-pub put_back : (u : ℕ) (xs rs ys : List ℕ) → ys ≡ take (length rs) rs ++ drop (length rs) (take (length xs - u) (drop u xs)) → take u xs ++ (ys ++ drop (length xs - u) (drop u xs)) ≡ put_at u rs xs
-put_back u xs rs ys e =
-    let short : length (drop u xs) ≤ length xs - u = omega (arith, length-drop u xs) in
-    rw (e, take_all (length xs - u) (drop u xs) short, drop_of_length-le (drop u xs) short, append-nil, take-length rs, drop-drop (length rs) u xs) refl
+pub put_back : (u k : ℕ) (xs rs ys : List ℕ) → k ≡ length rs → ys ≡ rs → put_mid u k xs ys ≡ put_at u rs xs
+put_back u k xs rs ys f e = rw (e, f, drop-drop (length rs) u xs) refl
 
 pub accepts : (d : Record) (store s : Bytes) (h : Head) (n : ℕ) (a : Record) (after : Bytes) → Why d store s 0 → HeadIs s h → n ≡ length s
     → a ≡ noted d h.fragment n → after ≡ put_at d.used s store → Accepts d store s 0 a after

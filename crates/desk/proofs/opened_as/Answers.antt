@@ -5,4 +5,4 @@ use borrow.Author.Rules.{rules}
 use Rattle.desk.proofs.opened_as.Goals as goal
 
 pub returns : goal.returns
-returns c = opened_as_lem c.args.layout.now c.copy.result _ c.args.entries c.args.number c.copy.ensures.0 c.copy.ensures.1
+returns c = opened_as_lem c.args.layout.now _ c.args.entries c.args.number c.copy_from_slice.ensures.after

@@ -1,0 +1,6 @@
+use mathlib.Core.Path.{refl}
+use borrow.Author.Rules.{rules}
+use Rattle.depot.proofs.ended.Goals as goal
+
+pub returns : goal.returns
+returns c = record { refusal_value = (refl, refl); work_after = c.fill.ensures }
