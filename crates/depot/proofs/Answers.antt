@@ -5,7 +5,7 @@ use native.Mathlib.Nat.{zero-add, mul-le-mul_right}
 use mathlib.Core.Path.{◌≡◌, refl, sym, ap, ◌∙◌, subst}
 use mathlib.Core.Bool.{Bool, true, false, true≢false, false≢true}
 use mathlib.Core.List.{List}
-use lib.ListN.{length, replicate, length-replicate}
+use lib.ListN.{length, replicate}
 use Rattle.meaning.specs.Bytes.{Bytes}
 use Rattle.meaning.specs.Formula.{formula}
 use Rattle.meaning.specs.Fragment.{Fragment, Sound, row_count, rows_of}
@@ -20,7 +20,6 @@ use Rattle.reply.proofs.Round.{size_is}
 use Rattle.meaning.specs.Refused.{Unless, refused, passed, Granted, granted}
 use Rattle.depot.specs.inner.Worked.{Worked}
 use Rattle.depot.specs.Answer.{Call, call, laid, bytes, memory_after, Answered}
-use Rattle.formula.specs.inner.Made as Made
 use Rattle.formula.specs.inner.Made.{Laid, Made}
 use Rattle.writing.specs.inner.Promise.{LaidReply}
 use Rattle.writing.proofs.Rows.{row_ins_lem, front_in}

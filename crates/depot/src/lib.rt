@@ -85,8 +85,7 @@ fn worked(
 }
 
 // A depot's reply to a question about its fragment.
-#[unsafe(no_mangle)]
-pub extern "C" fn depot_reply(
+pub fn depot_reply(
     text: &[u8],
     list: List,
     rows: &[u32],

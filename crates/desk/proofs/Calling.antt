@@ -7,9 +7,9 @@ use mathlib.Core.Path.{◌≡◌, refl, sym, ap, ◌∙◌, subst}
 use mathlib.Core.Logic.{◌≢◌}
 use mathlib.Core.Bool.{Bool, true, false, ◌&&◌, cond, false≢true}
 use mathlib.Core.Option.{Option, none, some}
-use mathlib.Core.List.{List, ◌++◌, append-nil}
-use lib.ListN.{length, take, drop, replicate, length-drop, drop_of_length-le}
-use lib.Seq.{take_all, take-length, drop-drop}
+use mathlib.Core.List.{List, ◌++◌}
+use lib.ListN.{length, drop, replicate}
+use lib.Seq.{drop-drop}
 use Rattle.meaning.specs.Bytes.{Bytes}
 use Rattle.meaning.specs.Algebra.{bool}
 use Rattle.meaning.specs.Reply.{Reply}

@@ -32,8 +32,7 @@ const NO: u8 = 1;
 
 const YES: u8 = 2;
 
-#[unsafe(no_mangle)]
-pub extern "C" fn desk_fresh() -> Record
+pub fn desk_fresh() -> Record
     ensures { result ≡ fresh_record }
 {
     Record {
@@ -111,8 +110,7 @@ pub fn opened(desk: Record, layout: &[u8], entries: usize, number: u32) -> Answe
 }
 
 // Opens the question of that number and forgets all earlier replies; answers the refusal.
-#[unsafe(no_mangle)]
-pub extern "C" fn desk_open(desk: &mut Record, layout: &[u8], entries: usize, number: u32) -> u8
+pub fn desk_open(desk: &mut Record, layout: &[u8], entries: usize, number: u32) -> u8
     ensures { Opens desk.old layout.now entries number result desk.new }
 {
     let a = opened(*desk, layout, entries, number);
@@ -187,8 +185,7 @@ pub fn accepted(desk: Record, store: &mut [u8], reply: &[u8]) -> Answer
 }
 
 // Takes a reply into the store and marks its fragment heard; answers the refusal.
-#[unsafe(no_mangle)]
-pub extern "C" fn desk_accept(desk: &mut Record, store: &mut [u8], reply: &[u8]) -> u8
+pub fn desk_accept(desk: &mut Record, store: &mut [u8], reply: &[u8]) -> u8
     ensures { Accepts desk.old store.old reply.now result desk.new store.new }
 {
     let a = accepted(*desk, store, reply);
@@ -232,8 +229,7 @@ pub fn asked_of(desk: Record, store: &[u8]) -> Asked
 }
 
 // What is said of the open question.
-#[unsafe(no_mangle)]
-pub extern "C" fn desk_ask(desk: &Record, store: &[u8]) -> Asked
+pub fn desk_ask(desk: &Record, store: &[u8]) -> Asked
     ensures { Asks desk.now store.now result.refusal result.said }
 {
     asked_of(*desk, store)

@@ -16,7 +16,7 @@ use Rattle.meaning.specs.Fragment.{Fragment, Rows}
 use Rattle.meaning.specs.Run.{Vectors, Tables, upd, value_of, visit, push, row, deliver, sweep}
 use Rattle.question.specs.declared.List as L
 use Rattle.question.specs.Listed.{Place}
-use Rattle.formula.specs.inner.Flat.{St, st, Got, across, down_from, add_f, join_f, not_f, value_f, enter_f, entry_f, row_f, or_into, lift_f, deliver_f, stands}
+use Rattle.formula.specs.inner.Flat.{St, Got, across, down_from, add_f, join_f, not_f, value_f, enter_f, entry_f, row_f, or_into, lift_f, deliver_f, stands}
 
 -- THE MARK STAYS
 both : {A : Type 0} (P : A → Type 0) (b : Bool) {x y : A} → P x → P y → P (cond b x y)

@@ -5,7 +5,6 @@ use mathlib.Core.Path.{◌≡◌, refl, ◌∙◌, subst}
 use mathlib.Core.Bool.{Bool}
 use mathlib.Core.List.{List}
 use lib.ListN.{length, get_or}
-use native.Mathlib.Decide.{dec_lt}
 use Rattle.meaning.specs.Bytes.{Bytes, word}
 use Rattle.meaning.specs.Fragment.{Fragment}
 use Rattle.formula.specs.inner.Flat.{St, got, Reads, truth, join_f, value_f, test_f, enter_f, entry_f}

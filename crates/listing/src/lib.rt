@@ -153,8 +153,7 @@ fn put_listing(page: &mut [u8], list: List, text: &[u8]) -> usize
 }
 
 // What a list says, written into `out` where it fits whole; gives its length.
-#[unsafe(no_mangle)]
-pub extern "C" fn question_listing(list: List, text: &[u8], out: &mut [u8]) -> usize
+pub fn question_listing(list: List, text: &[u8], out: &mut [u8]) -> usize
     ensures { Lists list text.now out.old result out.new }
 {
     if !list_ok(list, text) {

@@ -1,20 +1,17 @@
 -- The reader's list: its last entry is the question, and each entry points only at earlier ones. What any list means, computed.
-use Prim.Native.Nat.{ℕ, zero, suc, ◌+◌, ◌≤◌, ◌<◌}
+use Prim.Native.Nat.{ℕ, suc, ◌+◌, ◌<◌}
 use native.Mathlib.Omega.{arith}
-use native.Mathlib.Nat.{add-zero, zero-add, suc-add, add-suc}
+use native.Mathlib.Nat.{zero-add, suc-add, add-suc}
 use mathlib.Core.Path.{◌≡◌, refl, sym, ap, ap₂, ◌∙◌, subst}
-use mathlib.Core.Bool.{Bool, true, false, not, ◌&&◌, ◌||◌}
-use mathlib.Core.Logic.{◌↔◌}
-use mathlib.Core.List.{List, [], ◌∷◌, ◌++◌, append_assoc, append-nil}
+use mathlib.Core.Bool.{Bool, true, not, ◌&&◌, ◌||◌}
+use mathlib.Core.List.{List, [], ◌∷◌, ◌++◌, append_assoc}
 use lib.ListN.{length, get_or, length-append, get_or-append}
 use lib.Seq.{get_or_at, get_or-append_seam}
 use Rattle.meaning.specs.Says.{Says}
 use Rattle.meaning.specs.Bytes.{Bytes}
 use Rattle.meaning.specs.Tree.{Tree}
-use Rattle.meaning.specs.Question.{Question}
-use Rattle.meaning.specs.Holds.{Holds}
-use Rattle.meaning.specs.Term.{Term, normal, Means}
-use Rattle.meaning.specs.Entry.{Entry, root, flat, entries, top, filled, terms, term, Points, Earlier, EntryHolds}
+use Rattle.meaning.specs.Term.{Term, normal}
+use Rattle.meaning.specs.Entry.{Entry, root, flat, filled, terms, term, Points, Earlier, EntryHolds}
 use Rattle.meaning.specs.Promise.{ReadersList, LastEntry}
 use Rattle.meaning.proofs.Says.{some}
 use Rattle.meaning.proofs.Tree.{Finite, deep}

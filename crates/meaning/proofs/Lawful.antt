@@ -1,29 +1,28 @@
 -- THE REPLY LAID DOWN IS LAWFUL, so the desk says what the question means at the top row of the joined register.
-use Prim.Native.Nat.{ℕ, zero, suc, ◌+◌, ◌-◌, ◌*◌, ◌≤◌, ◌<◌}
+use Prim.Native.Nat.{ℕ, suc, ◌-◌, ◌<◌}
 use native.Mathlib.Omega.{arith}
 use native.Mathlib.Nat.{add-zero}
 use mathlib.Core.Path.{◌≡◌, refl, sym, ap, ◌∙◌, subst}
-use mathlib.Core.Bool.{Bool, true, false}
+use mathlib.Core.Bool.{Bool}
 use mathlib.Core.Option.{some}
 use mathlib.Core.List.{List, [], Memᴰ}
 use lib.ListN.{length, get_or}
 use Rattle.meaning.specs.Says.{Says}
 use Rattle.meaning.specs.Bytes.{Bytes}
-use Rattle.meaning.specs.Tree.{Below}
 use Rattle.meaning.specs.Entry.{Entry, entries, top, Earlier, EntryHolds}
 use Rattle.meaning.specs.Algebra.{bool}
-use Rattle.meaning.specs.Formula.{Ref, Step, formula, value}
+use Rattle.meaning.specs.Formula.{Ref, formula, value}
 use Rattle.meaning.specs.Fragment.{Rows}
-use Rattle.meaning.specs.Run.{Vectors, run}
-use Rattle.meaning.specs.Reply.{Reply, stand_ins, tabulated, var_v, var_d, laid_run, laid_down}
-use Rattle.meaning.specs.Register.{Register, parts, rows_in, StandsFor, Cut, place, joined}
+use Rattle.meaning.specs.Run.{Vectors}
+use Rattle.meaning.specs.Reply.{stand_ins, tabulated, var_v, var_d, laid_run, laid_down}
+use Rattle.meaning.specs.Register.{Register, parts, rows_in, Cut, place, joined}
 use Rattle.meaning.specs.Solve.{Values, assign, here_of, lower_of}
 use Rattle.meaning.specs.Lawful.{Right, Lawful, HereIn, LowerIn}
 use Rattle.meaning.specs.Promise.{DepotLawful, DeskAnswer}
 use Rattle.meaning.proofs.Says.{says_iff, says_same}
 use Rattle.meaning.proofs.Tree.{Finite, deep, deep_says}
 use Rattle.meaning.proofs.Entry.{readers_list, last_entry, mean, mean_says, mean_agrees}
-use Rattle.meaning.proofs.Formula.{reading, formula_laws, Value}
+use Rattle.meaning.proofs.Formula.{reading, formula_laws}
 use Rattle.meaning.proofs.Run.{VarsAre, Answers, run_is}
 use Rattle.meaning.proofs.Reply.{Position, position, Stood, stood, stands_in, tabulated_at}
 use Rattle.meaning.proofs.Register.{place_real, place_stands, upright, onward, joined_finite, joined_placed}

@@ -1,7 +1,7 @@
 -- Laws of `Says`: and, or, not, some. One induction then serves for soundness and completeness.
-use mathlib.Core.Path.{◌≡◌, refl, subst, sym}
+use mathlib.Core.Path.{◌≡◌, refl, subst}
 use mathlib.Core.Bool.{Bool, true, false, not, ◌&&◌, ◌||◌, true≢false, false≢true}
-use mathlib.Core.Logic.{◌⊎◌, inl, inr, ⊎_elim, ◌↔◌}
+use mathlib.Core.Logic.{◌⊎◌, inl, inr, ⊎_elim}
 use mathlib.Core.List.{List, [], ◌∷◌, Memᴰ}
 use Rattle.meaning.specs.Says.{Says, aye, nay}
 

@@ -1,5 +1,5 @@
 -- The list of sub-questions (01): entries of nine kinds, each pointing only at earlier ones; the last is the question.
-use Rattle.std.specs.Prelude.{ℕ, zero, suc, ◌<◌, List, [], ◌∷◌, ◌++◌, get_or}
+use Rattle.std.specs.Prelude.{ℕ, suc, ◌<◌, List, [], ◌∷◌, ◌++◌, get_or}
 use Rattle.meaning.specs.Bytes.{Bytes}
 use Rattle.meaning.specs.Tree.{Tree}
 use Rattle.meaning.specs.Question.{Question}

@@ -1,5 +1,5 @@
 -- Layouts, a register cut by one, and the joined register (01, "The register and its fragments").
-use Rattle.std.specs.Prelude.{ℕ, zero, suc, ◌≤◌, ◌<◌, ◌≡◌, Bool, true, false, cond, List, [], ◌∷◌, length, get_or, eqb}
+use Rattle.std.specs.Prelude.{ℕ, zero, suc, ◌≤◌, ◌<◌, ◌≡◌, true, false, cond, List, [], ◌∷◌, length, get_or, eqb}
 use Rattle.meaning.specs.Bytes.{Bytes, label_is, text_is}
 use Rattle.meaning.specs.Tree.{Tree}
 use Rattle.meaning.specs.Fragment.{Fragment, Sound, Rows, rows_of}

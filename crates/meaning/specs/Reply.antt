@@ -1,5 +1,5 @@
 -- A reply (01, "The reply's bits"), and the one laid down for a fragment.
-use Rattle.std.specs.Prelude.{ℕ, zero, suc, ◌+◌, ◌*◌, Bool, cond, List, [], ◌∷◌, ◌++◌, length}
+use Rattle.std.specs.Prelude.{ℕ, zero, suc, ◌+◌, ◌*◌, cond, List, [], ◌∷◌, ◌++◌, length}
 use Rattle.meaning.specs.Bytes.{Bytes}
 use Rattle.meaning.specs.Entry.{Entry}
 use Rattle.meaning.specs.Formula.{Ref, Step, formula}

@@ -109,8 +109,7 @@ fn refs_ok(s: &[u8], w: usize, at: usize, count: usize, vars: usize, steps: usiz
 }
 
 // 0 if the bytes are a reply, else 13.
-#[unsafe(no_mangle)]
-pub extern "C" fn reply_check(bytes: &[u8]) -> u8
+pub fn reply_check(bytes: &[u8]) -> u8
     ensures { Checks bytes.now result }
 {
     let size = bytes.len();

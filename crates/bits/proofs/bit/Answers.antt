@@ -1,5 +1,4 @@
 -- `bits::bit` meets its contract: one bit of a byte.
-use borrow.Author.Rules.{rules}
 use native.Mathlib.Omega.{arith}
 use Prim.Native.Nat.{◌-◌, ◌%◌}
 use Rattle.bits.proofs.Byte.{field_in_byte}

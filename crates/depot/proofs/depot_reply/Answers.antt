@@ -1,8 +1,6 @@
 use native.Mathlib.Omega.{arith}
-use borrow.Author.Tests.{not-true, not-false}
 use Rattle.meaning.proofs.Says.{says_true, says_false}
 use Rattle.depot.proofs.Answers.{cells_few, refused_list, refused_fragment, refused_memory, answered_late}
-use borrow.Author.Rules.{rules}
 use Rattle.depot.proofs.depot_reply.Goals as goal
 
 pub returns-then-number-eq0 : goal.returns-then-number-eq0

@@ -4,7 +4,6 @@
 use native.Mathlib.Omega.{arith}
 use Rattle.depot.proofs.Answers.{zeros_as, within_made, over_made, late_over, late_short, late_done, need_is, need_fits, size_asks, write_asks}
 use Rattle.fragment.specs.Lent.{lent}
-use borrow.Author.Rules.{rules}
 use Rattle.depot.proofs.worked.Goals as goal
 
 pub returns-then-steps : goal.returns-then-steps

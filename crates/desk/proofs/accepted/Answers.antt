@@ -1,10 +1,9 @@
 -- `desk::accepted` meets its contract.
 use mathlib.Core.Path.{refl, subst}
 use native.Mathlib.Omega.{arith}
-use lib.ListN.{length, length-take, length-drop}
+use lib.ListN.{length}
 use Rattle.desk.proofs.Calling.{why_taken, taken_long, put_back, accepts}
 use Rattle.desk.specs.Calls.{Why}
-use borrow.Author.Rules.{rules}
 use Rattle.desk.proofs.accepted.Goals as goal
 
 pub returns-then-c-ne0 : goal.returns-then-c-ne0

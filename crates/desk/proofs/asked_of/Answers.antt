@@ -2,7 +2,6 @@
 use Rattle.meaning.proofs.Says.{says_false, says_true}
 use Rattle.desk.proofs.Calling.{asks_20, asks_12, asks, says_waiting, answers_no, answers_yes}
 use Rattle.whole.proofs.Pieces.{was_open}
-use borrow.Author.Rules.{rules}
 use Rattle.desk.proofs.asked_of.Goals as goal
 
 pub returns-then-not-whole : goal.returns-then-not-whole

@@ -2,7 +2,6 @@
 use Rattle.meaning.proofs.Says.{says_false, says_true}
 use native.Mathlib.Omega.{arith}
 use Rattle.desk.proofs.Calling.{opens_10, opens_11, opens}
-use borrow.Author.Rules.{rules}
 use Rattle.desk.proofs.opened.Goals as goal
 
 pub returns-then-not-layout_ok : goal.returns-then-not-layout_ok

@@ -1,7 +1,5 @@
 -- `desk::opened_as` meets its contract.
-use native.Mathlib.Omega.{arith}
 use Rattle.desk.proofs.Calling.{opened_as_lem}
-use borrow.Author.Rules.{rules}
 use Rattle.desk.proofs.opened_as.Goals as goal
 
 pub returns : goal.returns

@@ -4,7 +4,6 @@ use native.Mathlib.Omega.{arith}
 use Rattle.desk.proofs.Calling.{judging_refused, judging_passed, not_heard, heard_before}
 use Rattle.whole.proofs.Pieces.{long_enough, was_open}
 use Rattle.meaning.specs.Refused.{refused, passed, granted}
-use borrow.Author.Rules.{rules}
 use Rattle.desk.proofs.why.Goals as goal
 
 pub returns-then-not-whole : goal.returns-then-not-whole

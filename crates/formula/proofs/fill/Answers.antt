@@ -1,9 +1,9 @@
 use borrow.Author.Rules.{rules}
 use native.Mathlib.Omega.{arith}
-use mathlib.Core.Path.{◌≡◌, refl, ap, ◌∙◌}
-use Prim.Native.Nat.{ℕ, ◌-◌, ◌≤◌}
-use mathlib.Core.List.{List, ◌++◌}
-use lib.ListN.{length, set, replicate, drop}
+use mathlib.Core.Path.{refl, ap, ◌∙◌}
+use Prim.Native.Nat.{ℕ}
+use mathlib.Core.List.{List}
+use lib.ListN.{set}
 use borrow.Author.Fill.{fill_more}
 use Rattle.formula.proofs.Loops.{filled}
 use Rattle.formula.proofs.fill.Goals as goal

@@ -1,11 +1,7 @@
-use borrow.Author.Rules.{rules}
-use native.Mathlib.Omega.{arith}
-use mathlib.Core.Path.{◌≡◌, refl, ap, ◌∙◌}
-use Prim.Native.Nat.{ℕ, ◌-◌, ◌≤◌}
-use mathlib.Core.List.{List, ◌++◌}
-use lib.ListN.{length, set, replicate, drop}
-use borrow.Author.Fill.{fill_more}
-use Rattle.formula.proofs.Loops.{filled}
+use mathlib.Core.Path.{◌≡◌}
+use Prim.Native.Nat.{◌-◌, ◌≤◌}
+use mathlib.Core.List.{◌++◌}
+use lib.ListN.{length, replicate, drop}
 use Rattle.formula.proofs.fill.Given as goal
 
 abbrev pub invariant-loop-i : goal.invariant-loop-i

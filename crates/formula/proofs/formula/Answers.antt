@@ -2,7 +2,6 @@ use native.Mathlib.Omega.{arith}
 use lib.ListN.{length}
 use Rattle.formula.specs.inner.Flat.{st}
 use Rattle.formula.proofs.Sweeps.{made}
-use borrow.Author.Rules.{rules}
 use Rattle.formula.proofs.formula.Goals as goal
 
 pub returns : goal.returns

@@ -1,5 +1,4 @@
 use Rattle.meaning.specs.Bytes.{label_is}
-use borrow.Author.Rules.{rules}
 use Rattle.formula.proofs.label_is.Goals as goal
 
 pub returns : goal.returns

@@ -1,8 +1,5 @@
 use borrow.Author.Rules.{rules}
-use mathlib.Core.Path.{◌≡◌, refl}
-use Prim.Native.Nat.{◌-◌, ◌<◌, ◌≤◌}
-use lib.ListN.{length}
-use Rattle.formula.specs.inner.Flat.{st, across, lift_f, push_f}
+use mathlib.Core.Path.{refl}
 use Rattle.formula.proofs.Loops.{outset, onward, arrived}
 use Rattle.formula.proofs.pushed.Goals as goal
 

@@ -1,9 +1,7 @@
-use borrow.Author.Rules.{rules}
-use mathlib.Core.Path.{◌≡◌, refl}
+use mathlib.Core.Path.{◌≡◌}
 use Prim.Native.Nat.{◌-◌, ◌<◌, ◌≤◌}
 use lib.ListN.{length}
 use Rattle.formula.specs.inner.Flat.{st, across, lift_f, push_f}
-use Rattle.formula.proofs.Loops.{outset, onward, arrived}
 use Rattle.formula.proofs.pushed.Given as goal
 
 abbrev pub invariant-loop-e : goal.invariant-loop-e

@@ -1,9 +1,6 @@
-use borrow.Author.Rules.{rules}
-use native.Mathlib.Omega.{arith}
 use mathlib.Core.Path.{◌≡◌}
 use Prim.Native.Nat.{◌+◌, ◌-◌, ◌≤◌}
 use Rattle.meaning.specs.Bytes.{word, same_bytes}
-use Rattle.formula.proofs.Words.{words_start, words_length, words_turn, words_differ, words_end}
 use Rattle.formula.proofs.same_word.Given as goal
 
 abbrev pub invariant-loop-i : goal.invariant-loop-i

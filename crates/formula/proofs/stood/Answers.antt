@@ -1,9 +1,7 @@
 use borrow.Author.Rules.{rules}
 use native.Mathlib.Omega.{arith}
-use mathlib.Core.Path.{◌≡◌, refl}
-use Prim.Native.Nat.{◌+◌, ◌-◌, ◌≤◌}
-use lib.ListN.{length, length-set}
-use Rattle.formula.specs.inner.Flat.{across, var_f, stand_f}
+use mathlib.Core.Path.{refl}
+use lib.ListN.{length-set}
 use Rattle.formula.proofs.Loops.{outset, onward, arrived, var_is}
 use Rattle.formula.proofs.stood.Goals as goal
 

@@ -1,10 +1,7 @@
-use borrow.Author.Rules.{rules}
-use native.Mathlib.Omega.{arith}
-use mathlib.Core.Path.{◌≡◌, refl}
+use mathlib.Core.Path.{◌≡◌}
 use Prim.Native.Nat.{◌+◌, ◌-◌, ◌≤◌}
-use lib.ListN.{length, length-set}
+use lib.ListN.{length}
 use Rattle.formula.specs.inner.Flat.{across, var_f, stand_f}
-use Rattle.formula.proofs.Loops.{outset, onward, arrived, var_is}
 use Rattle.formula.proofs.stood.Given as goal
 
 abbrev pub invariant-loop-e : goal.invariant-loop-e

@@ -1,11 +1,9 @@
 use borrow.Author.Rules.{rules}
 use native.Mathlib.Omega.{arith}
-use mathlib.Core.Path.{◌≡◌, refl, sym, ap, ◌∙◌}
-use Prim.Native.Nat.{◌-◌, ◌<◌, ◌≤◌}
-use lib.ListN.{length}
+use mathlib.Core.Path.{refl, sym, ap, ◌∙◌}
+use Prim.Native.Nat.{◌-◌}
 use Rattle.meaning.specs.Bound.{count}
-use Rattle.fragment.specs.Lent.{lent}
-use Rattle.formula.specs.inner.Flat.{st, stands, sweep_f}
+use Rattle.formula.specs.inner.Flat.{stands}
 use Rattle.formula.proofs.Loops.{downward, down_end, delivered_at}
 use Rattle.formula.proofs.Counts.{count_less, place_less, count_most, ins_count}
 use Rattle.formula.proofs.swept.Goals as goal

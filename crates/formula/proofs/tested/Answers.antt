@@ -4,7 +4,6 @@ use Rattle.meaning.specs.Bytes.{label_is, text_is}
 use Rattle.fragment.specs.Lent.{lent}
 use Rattle.question.specs.Listed.{entry_of}
 use Rattle.formula.proofs.KindTests.{told_test, label_inside, text_inside, same_place}
-use borrow.Author.Rules.{rules}
 use Rattle.formula.proofs.tested.Goals as goal
 
 pub label_is-same-requires : goal.label_is-same-requires

@@ -1,12 +1,8 @@
-use borrow.Author.Rules.{rules}
-use native.Mathlib.Omega.{arith}
-use mathlib.Core.Path.{◌≡◌, refl}
+use mathlib.Core.Path.{◌≡◌}
 use Prim.Native.Nat.{◌-◌, ◌<◌, ◌≤◌}
 use lib.ListN.{length}
 use Rattle.fragment.specs.Lent.{lent}
 use Rattle.formula.specs.inner.Flat.{st, across, entry_f, visit_f}
-use Rattle.formula.proofs.Loops.{outset, onward, arrived}
-use Rattle.formula.proofs.KindTests.{kept_rule, kept_reads, entered_is}
 use Rattle.formula.proofs.visited.Given as goal
 
 abbrev pub invariant-loop-e : goal.invariant-loop-e

@@ -1,7 +1,6 @@
 use native.Mathlib.Omega.{arith}
 use Rattle.meaning.specs.Says.{nay}
 use Rattle.meaning.proofs.Says.{says_iff}
-use borrow.Author.Rules.{rules}
 use Rattle.fragment.proofs.fragment_ok.Goals as goal
 
 pub returns-then-number-gt31 : goal.returns-then-number-gt31

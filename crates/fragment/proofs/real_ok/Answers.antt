@@ -1,6 +1,5 @@
 use native.Mathlib.Omega.{arith}
 use Rattle.meaning.specs.Says.{aye, nay}
-use borrow.Author.Rules.{rules}
 use Rattle.fragment.proofs.real_ok.Goals as goal
 
 pub returns-then-kind-ne0 : goal.returns-then-kind-ne0

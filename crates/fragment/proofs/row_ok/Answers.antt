@@ -1,6 +1,5 @@
 use native.Mathlib.Omega.{arith}
 use Rattle.fragment.proofs.Rules.{first_not, first_is, parent_late, parent_stands, row_real, row_stands}
-use borrow.Author.Rules.{rules}
 use Rattle.fragment.proofs.row_ok.Goals as goal
 
 pub returns-then-parent-ne4294967295 : goal.returns-then-parent-ne4294967295

@@ -1,11 +1,5 @@
-use borrow.Author.Rules.{rules}
-use native.Mathlib.Omega.{arith}
-use borrow.Author.Count.{below_more}
-use borrow.Author.Tests.{not-true, not-false}
 use Prim.Native.Nat.{ℕ, ◌-◌, ◌≤◌, ◌<◌}
-use Rattle.meaning.specs.Says.{aye, nay}
 use Rattle.meaning.specs.Fragment.{RowRule}
-use Rattle.meaning.proofs.Says.{says_true, says_false}
 use Rattle.fragment.specs.Lent.{lent}
 use Rattle.fragment.proofs.rows_ok.Given as goal
 

@@ -1,7 +1,6 @@
 use native.Mathlib.Omega.{arith}
 use Rattle.meaning.specs.Says.{nay}
 use Rattle.meaning.proofs.Says.{says_iff}
-use borrow.Author.Rules.{rules}
 use Rattle.fragment.proofs.stand_in_ok.Goals as goal
 
 pub returns-then-kind-ne1 : goal.returns-then-kind-ne1

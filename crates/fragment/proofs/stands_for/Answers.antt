@@ -1,7 +1,6 @@
 use Rattle.meaning.specs.Says.{nay}
 use Rattle.meaning.proofs.Says.{says_iff}
 use Rattle.meaning.proofs.Numbers.{says_eqb}
-use borrow.Author.Rules.{rules}
 use Rattle.fragment.proofs.stands_for.Goals as goal
 
 pub returns-then-kind-ne1 : goal.returns-then-kind-ne1

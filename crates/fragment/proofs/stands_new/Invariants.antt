@@ -1,12 +1,7 @@
-use borrow.Author.Rules.{rules}
-use native.Mathlib.Omega.{arith}
-use borrow.Author.Count.{below_more}
 use Prim.Native.Nat.{ℕ, ◌+◌, ◌*◌, ◌-◌, ◌≤◌, ◌<◌}
 use mathlib.Core.Path.{◌≡◌}
 use mathlib.Core.Logic.{◌≢◌}
 use lib.ListN.{get_or}
-use Rattle.meaning.specs.Says.{aye, nay}
-use Rattle.meaning.proofs.Says.{says_true, says_false}
 use Rattle.fragment.proofs.stands_new.Given as goal
 
 abbrev pub invariant-loop-j : goal.invariant-loop-j

@@ -1,5 +1,4 @@
 use Rattle.listing.proofs.Pages.{put_run}
-use borrow.Author.Rules.{rules}
 use Rattle.listing.proofs.put_bytes.Goals as goal
 
 pub returns : goal.returns

@@ -3,7 +3,6 @@ use Rattle.question.specs.Listed.{entry_of}
 use Rattle.listing.specs.Listing.{shown}
 use Rattle.listing.proofs.Pages.{puts_cast}
 use Rattle.listing.proofs.Lines.{points_at, shown_at, room_at, last_kind}
-use borrow.Author.Rules.{rules}
 use Rattle.listing.proofs.put_entry.Goals as goal
 
 pub put_bytes-requires : goal.put_bytes-requires

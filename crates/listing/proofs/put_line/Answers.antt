@@ -2,7 +2,6 @@ use native.Mathlib.Omega.{arith}
 use Rattle.meaning.specs.Bytes.{word}
 use Rattle.question.specs.Listed.{entry_of}
 use Rattle.listing.proofs.Lines.{line_length, puts_line}
-use borrow.Author.Rules.{rules}
 use Rattle.listing.proofs.put_line.Goals as goal
 
 pub put_number-number-requires : goal.put_number-number-requires

@@ -1,9 +1,7 @@
 use borrow.Author.Rules.{rules}
-use Prim.Native.Nat.{◌-◌, ◌≤◌}
 use native.Mathlib.Omega.{arith}
-use mathlib.Core.Path.{◌≡◌, refl}
-use lib.ListN.{length}
-use Rattle.listing.proofs.Lines.{Left, left_first, left_room, left_next, left_end}
+use mathlib.Core.Path.{refl}
+use Rattle.listing.proofs.Lines.{left_first, left_room, left_next, left_end}
 use Rattle.listing.proofs.put_lines.Goals as goal
 
 pub loop-i-init : goal.loop-i-init

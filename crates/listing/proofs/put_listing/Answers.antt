@@ -1,7 +1,6 @@
 use native.Mathlib.Omega.{arith}
 use Rattle.listing.proofs.Pages.{decimal_size}
 use Rattle.listing.proofs.Lines.{listing_length, puts_listing, most_listing}
-use borrow.Author.Rules.{rules}
 use Rattle.listing.proofs.put_listing.Goals as goal
 
 pub put_one-word-requires : goal.put_one-word-requires

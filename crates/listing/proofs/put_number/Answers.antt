@@ -2,7 +2,6 @@ use mathlib.Core.Path.{ap}
 use native.Mathlib.Omega.{arith}
 use lib.ListN.{length, length-set}
 use Rattle.listing.proofs.Pages.{puts_cast, one_digit, two_digits, put_byte, put_pair}
-use borrow.Author.Rules.{rules}
 use Rattle.listing.proofs.put_number.Goals as goal
 
 pub bounds-page-at : goal.bounds-page-at

@@ -2,7 +2,6 @@ use native.Mathlib.Omega.{arith}
 use lib.ListN.{length-append}
 use Rattle.listing.specs.Listing.{decimal}
 use Rattle.listing.proofs.Pages.{puts_then}
-use borrow.Author.Rules.{rules}
 use Rattle.listing.proofs.put_one.Goals as goal
 
 pub put_bytes-next-requires : goal.put_bytes-next-requires

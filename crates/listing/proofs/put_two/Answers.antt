@@ -3,7 +3,6 @@ use mathlib.Core.List.{◌++◌, append_assoc}
 use Rattle.meaning.specs.Bytes.{ascii}
 use Rattle.listing.specs.Listing.{decimal}
 use Rattle.listing.proofs.Pages.{puts_then, puts_cast, three_size}
-use borrow.Author.Rules.{rules}
 use Rattle.listing.proofs.put_two.Goals as goal
 
 pub put_one-next-requires : goal.put_one-next-requires

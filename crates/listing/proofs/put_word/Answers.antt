@@ -3,7 +3,6 @@ use native.Mathlib.Nat.{add-sub_cancel_left}
 use lib.ListN.{length-append}
 use Rattle.meaning.specs.Bytes.{word}
 use Rattle.listing.proofs.Pages.{puts_then}
-use borrow.Author.Rules.{rules}
 use Rattle.listing.proofs.put_word.Goals as goal
 
 pub put_bytes-next-requires : goal.put_bytes-next-requires

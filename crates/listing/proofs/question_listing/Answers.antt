@@ -1,13 +1,10 @@
-use mathlib.Core.Path.{sym, ap}
+use mathlib.Core.Path.{ap}
 use mathlib.Core.List.{◌++◌}
 use native.Mathlib.Omega.{arith}
-use lib.ListN.{length-take, drop}
-use lib.Seq.{length-take-le}
+use lib.ListN.{drop}
 use Rattle.listing.proofs.Lines.{size_most, list_short, list_written}
-use borrow.Author.Tests.{not-true, not-false}
 use Rattle.meaning.proofs.Says.{says_true, says_false}
 use Rattle.listing.specs.Listing.{Lists}
-use borrow.Author.Rules.{rules}
 use Rattle.listing.proofs.question_listing.Goals as goal
 
 pub returns-then-not-list_ok : goal.returns-then-not-list_ok

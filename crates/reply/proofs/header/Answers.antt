@@ -3,7 +3,6 @@ use mathlib.Core.Path.{◌≡◌, refl}
 use native.Mathlib.Omega.{arith}
 use Rattle.bits.specs.Fields.{field_at}
 use Rattle.reply.proofs.Judge.{read_at, head_of}
-use borrow.Author.Rules.{rules}
 use Rattle.reply.proofs.header.Goals as goal
 
 pub returns : goal.returns

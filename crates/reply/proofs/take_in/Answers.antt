@@ -2,7 +2,6 @@
 use Prim.Native.Nat.{◌+◌, ◌*◌}
 use native.Mathlib.Omega.{arith}
 use Rattle.bits.proofs.Laws.{field_lt}
-use borrow.Author.Rules.{rules}
 use Rattle.reply.proofs.take_in.Goals as goal
 
 pub returns : goal.returns

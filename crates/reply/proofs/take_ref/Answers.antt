@@ -1,7 +1,6 @@
 -- `reply::take_ref` meets its contract.
 use native.Mathlib.Omega.{arith}
 use Rattle.reply.proofs.Judge.{ref_of}
-use borrow.Author.Rules.{rules}
 use Rattle.reply.proofs.take_ref.Goals as goal
 
 pub returns : goal.returns

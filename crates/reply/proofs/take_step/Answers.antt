@@ -2,7 +2,6 @@
 use mathlib.Core.Path.{refl}
 use Rattle.reply.proofs.Judge.{step_of}
 use native.Mathlib.Omega.{arith}
-use borrow.Author.Rules.{rules}
 use Rattle.reply.proofs.take_step.Goals as goal
 
 pub returns : goal.returns

@@ -1,5 +1,4 @@
 use Rattle.meaning.proofs.Says.{says_false, says_true}
-use Prim.Native.Nat.{ℕ, ◌-◌, ◌<◌}
 use native.Mathlib.Omega.{arith}
 use Rattle.meaning.specs.Says.{aye, nay}
 use Rattle.reply.proofs.Lists.{up_to_suc}

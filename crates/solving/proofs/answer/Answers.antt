@@ -1,9 +1,8 @@
-use Prim.Native.Nat.{◌-◌, ◌≤◌}
+use Prim.Native.Nat.{◌-◌}
 use mathlib.Core.Path.{refl}
 use native.Mathlib.Omega.{arith}
 use Rattle.whole.specs.Whole.{start_of, size_of}
-use Rattle.solving.specs.inner.Values.{Lent}
-use Rattle.solving.proofs.Answers.{part_end, sound_here, part_agree, Left, left_start, left_step, left_end}
+use Rattle.solving.proofs.Answers.{part_end, sound_here, part_agree, left_start, left_step, left_end}
 use Rattle.solving.proofs.answer.Goals as goal
 
 pub loop-f-init : goal.loop-f-init

@@ -1,10 +1,7 @@
 -- `solving::answer` meets its contract.
-use Prim.Native.Nat.{◌-◌, ◌≤◌}
-use mathlib.Core.Path.{refl}
-use native.Mathlib.Omega.{arith}
-use Rattle.whole.specs.Whole.{start_of, size_of}
+use Prim.Native.Nat.{◌≤◌}
 use Rattle.solving.specs.inner.Values.{Lent}
-use Rattle.solving.proofs.Answers.{part_end, sound_here, part_agree, Left, left_start, left_step, left_end}
+use Rattle.solving.proofs.Answers.{Left}
 use Rattle.solving.proofs.answer.Given as goal
 
 abbrev pub invariant-loop-f : goal.invariant-loop-f

@@ -1,8 +1,7 @@
-use Prim.Native.Nat.{ℕ, ◌+◌, ◌-◌, ◌≤◌}
+use Prim.Native.Nat.{ℕ, ◌+◌}
 use mathlib.Core.Path.{◌≡◌, refl}
 use native.Mathlib.Omega.{arith}
 use lib.ListN.{get_or}
-use Rattle.solving.specs.inner.Values.{Put}
 use Rattle.solving.proofs.Replies.{put_none, put_more}
 use Rattle.solving.proofs.copy_row.Goals as goal
 

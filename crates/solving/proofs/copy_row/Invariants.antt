@@ -1,10 +1,7 @@
 -- `solving::copy_row` meets its contract.
-use Prim.Native.Nat.{ℕ, ◌+◌, ◌-◌, ◌≤◌}
-use mathlib.Core.Path.{◌≡◌, refl}
-use native.Mathlib.Omega.{arith}
+use Prim.Native.Nat.{◌+◌, ◌-◌, ◌≤◌}
 use lib.ListN.{get_or}
 use Rattle.solving.specs.inner.Values.{Put}
-use Rattle.solving.proofs.Replies.{put_none, put_more}
 use Rattle.solving.proofs.copy_row.Given as goal
 
 abbrev pub invariant-loop-e : goal.invariant-loop-e

@@ -1,8 +1,7 @@
-use Prim.Native.Nat.{◌+◌, ◌-◌, ◌*◌, ◌≤◌}
+use Prim.Native.Nat.{◌+◌, ◌*◌}
 use mathlib.Core.Path.{◌≡◌, ◌∙◌}
 use native.Mathlib.Omega.{arith}
 use native.Mathlib.Numerals.{add-one}
-use lib.ListN.{length}
 use Rattle.reply.specs.inner.Decode.{entries_of, ins_of}
 use Rattle.solving.proofs.Replies.{small, Gathered, row_room, gather_more, variable_is}
 use Rattle.solving.proofs.gather.Goals as goal

@@ -1,11 +1,8 @@
 -- `solving::gather` meets its contract.
-use Prim.Native.Nat.{◌+◌, ◌-◌, ◌*◌, ◌≤◌}
-use mathlib.Core.Path.{◌≡◌, ◌∙◌}
-use native.Mathlib.Omega.{arith}
-use native.Mathlib.Numerals.{add-one}
+use Prim.Native.Nat.{◌-◌, ◌*◌, ◌≤◌}
+use mathlib.Core.Path.{◌≡◌}
 use lib.ListN.{length}
-use Rattle.reply.specs.inner.Decode.{entries_of, ins_of}
-use Rattle.solving.proofs.Replies.{small, Gathered, row_room, gather_more, variable_is}
+use Rattle.solving.proofs.Replies.{Gathered}
 use Rattle.solving.proofs.gather.Given as goal
 
 abbrev pub invariant-loop-p : goal.invariant-loop-p

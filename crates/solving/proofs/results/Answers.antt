@@ -1,4 +1,4 @@
-use Prim.Native.Nat.{◌+◌, ◌-◌, ◌*◌, ◌≤◌}
+use Prim.Native.Nat.{◌+◌, ◌*◌}
 use mathlib.Core.Path.{◌≡◌, sym, ap, ◌∙◌}
 use native.Mathlib.Omega.{arith}
 use Rattle.meaning.specs.Formula.{ref_value}
@@ -6,7 +6,7 @@ use Rattle.reply.specs.inner.Decode.{ref_at, steps_of}
 use Rattle.reply.specs.inner.Checked.{vars_of}
 use Rattle.reply.proofs.Judge.{ref_from_lem, ref_good}
 use Rattle.whole.specs.inner.Steps.{number_in}
-use Rattle.solving.specs.inner.Values.{truths, Put}
+use Rattle.solving.specs.inner.Values.{truths}
 use Rattle.solving.proofs.Replies.{small, few_vars, ref_wider, put_none, put_more}
 use Rattle.solving.proofs.results.Goals as goal
 

@@ -1,14 +1,10 @@
 -- `solving::results` meets its contract.
 use Prim.Native.Nat.{◌+◌, ◌-◌, ◌*◌, ◌≤◌}
-use mathlib.Core.Path.{◌≡◌, sym, ap, ◌∙◌}
-use native.Mathlib.Omega.{arith}
+use mathlib.Core.Path.{◌≡◌}
 use Rattle.meaning.specs.Formula.{ref_value}
-use Rattle.reply.specs.inner.Decode.{ref_at, steps_of}
-use Rattle.reply.specs.inner.Checked.{vars_of}
-use Rattle.reply.proofs.Judge.{ref_from_lem, ref_good}
+use Rattle.reply.specs.inner.Decode.{ref_at}
 use Rattle.whole.specs.inner.Steps.{number_in}
 use Rattle.solving.specs.inner.Values.{truths, Put}
-use Rattle.solving.proofs.Replies.{small, few_vars, ref_wider, put_none, put_more}
 use Rattle.solving.proofs.results.Given as goal
 
 abbrev pub invariant-loop-e : goal.invariant-loop-e

@@ -3,7 +3,6 @@ use mathlib.Core.Path.{◌∙◌}
 use native.Mathlib.Omega.{arith}
 use Rattle.solving.proofs.Replies.{small, results_good}
 use Rattle.solving.proofs.Answers.{solves_row}
-use borrow.Author.Rules.{rules}
 use Rattle.solving.proofs.solve.Goals as goal
 
 pub results-requires : goal.results-requires

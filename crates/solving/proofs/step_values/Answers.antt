@@ -1,11 +1,9 @@
-use Prim.Native.Nat.{◌+◌, ◌-◌, ◌*◌, ◌≤◌}
+use Prim.Native.Nat.{◌+◌, ◌*◌}
 use mathlib.Core.Path.{◌≡◌, sym, ap, ◌∙◌}
-use mathlib.Core.List.{[]}
 use native.Mathlib.Omega.{arith}
 use native.Mathlib.Numerals.{add-one}
-use lib.ListN.{length, take, length-set}
-use Rattle.meaning.specs.Formula.{step_value, step_values}
-use Rattle.meaning.specs.Reply.{tabulated}
+use lib.ListN.{length-set}
+use Rattle.meaning.specs.Formula.{step_value}
 use Rattle.reply.specs.inner.Decode.{steps_of, decoded}
 use Rattle.reply.specs.inner.Checked.{vars_of}
 use Rattle.reply.proofs.Judge.{step_from_lem, step_good}

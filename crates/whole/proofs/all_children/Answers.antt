@@ -1,14 +1,11 @@
 use Rattle.meaning.proofs.Says.{says_false, says_true}
-use Prim.Native.Nat.{ℕ, ◌-◌, ◌≤◌, ◌<◌}
 use mathlib.Core.Path.{◌≡◌, sym, ◌∙◌}
 use native.Mathlib.Omega.{arith}
-use lib.ListN.{length}
 use Rattle.meaning.specs.Says.{aye, nay}
 use Rattle.meaning.specs.Register.{parent_of}
 use Rattle.reply.proofs.Lists.{up_to_suc}
 use Rattle.whole.specs.inner.Steps.{StandsFor}
 use Rattle.whole.proofs.Children.{same_at}
-use borrow.Author.Rules.{rules}
 use Rattle.whole.proofs.all_children.Goals as goal
 
 pub loop-g-init : goal.loop-g-init

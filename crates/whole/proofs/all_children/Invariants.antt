@@ -1,15 +1,9 @@
 -- `whole::all_children` meets its contract.
-use Rattle.meaning.proofs.Says.{says_false, says_true}
 use Prim.Native.Nat.{ℕ, ◌-◌, ◌≤◌, ◌<◌}
-use mathlib.Core.Path.{◌≡◌, sym, ◌∙◌}
-use native.Mathlib.Omega.{arith}
+use mathlib.Core.Path.{◌≡◌}
 use lib.ListN.{length}
-use Rattle.meaning.specs.Says.{aye, nay}
 use Rattle.meaning.specs.Register.{parent_of}
-use Rattle.reply.proofs.Lists.{up_to_suc}
 use Rattle.whole.specs.inner.Steps.{StandsFor}
-use Rattle.whole.proofs.Children.{same_at}
-use borrow.Author.Rules.{rules}
 use Rattle.whole.proofs.all_children.Given as goal
 
 abbrev pub invariant-loop-g : goal.invariant-loop-g

@@ -6,7 +6,6 @@ use native.Mathlib.Omega.{arith}
 use lib.ListN.{get_or}
 use Rattle.meaning.specs.Says.{aye, nay}
 use Rattle.reply.proofs.Tests.{says_le}
-use borrow.Author.Rules.{rules}
 use Rattle.whole.proofs.apart.Goals as goal
 
 pub returns-then-g-f : goal.returns-then-g-f

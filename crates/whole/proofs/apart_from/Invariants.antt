@@ -1,10 +1,6 @@
 -- `whole::apart_from` meets its contract.
-use Rattle.meaning.proofs.Says.{says_false, says_true}
 use Prim.Native.Nat.{ℕ, ◌-◌, ◌≤◌, ◌<◌}
 use mathlib.Core.Path.{◌≡◌}
-use native.Mathlib.Omega.{arith}
-use Rattle.meaning.specs.Says.{aye, nay}
-use Rattle.reply.proofs.Lists.{up_to_suc}
 use Rattle.whole.specs.inner.Steps.{HeardIn, number_in, Apart}
 use Rattle.whole.proofs.apart_from.Given as goal
 

@@ -2,7 +2,6 @@
 use Rattle.meaning.proofs.Says.{says_false, says_iff, says_true}
 use Rattle.meaning.specs.Says.{nay}
 use Rattle.reply.proofs.Tests.{says_eq}
-use borrow.Author.Rules.{rules}
 use Rattle.whole.proofs.begins.Goals as goal
 
 pub returns-then-not-is_heard : goal.returns-then-not-is_heard

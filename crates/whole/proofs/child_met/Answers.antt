@@ -1,7 +1,6 @@
 -- `whole::child_met` meets its contract.
 use Rattle.meaning.specs.Says.{aye}
 use Rattle.meaning.proofs.Says.{says_iff}
-use borrow.Author.Rules.{rules}
 use Rattle.whole.proofs.child_met.Goals as goal
 
 pub returns-then-parent-fragment : goal.returns-then-parent-fragment

@@ -2,7 +2,6 @@
 use mathlib.Core.Logic.{inl, inr, ⊎_elim}
 use Rattle.meaning.specs.Says.{aye}
 use Rattle.meaning.proofs.Says.{says_iff}
-use borrow.Author.Rules.{rules}
 use Rattle.whole.proofs.followed.Goals as goal
 
 pub returns-then-end-used : goal.returns-then-end-used

@@ -1,7 +1,6 @@
 -- `whole::is_heard` meets its contract.
 use Rattle.meaning.proofs.Says.{says_iff}
 use Rattle.reply.proofs.Tests.{says_ne}
-use borrow.Author.Rules.{rules}
 use Rattle.whole.proofs.is_heard.Goals as goal
 
 pub returns : goal.returns

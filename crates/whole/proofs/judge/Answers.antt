@@ -4,7 +4,6 @@ use mathlib.Core.Path.{◌∙◌}
 use native.Mathlib.Omega.{arith}
 use Rattle.reply.proofs.Round.{checked_of}
 use Rattle.whole.proofs.Pieces.{passed_check, failed_check, wrong_number, misfit, fragment_is, entries_is, shape_only, shape_all, well, front_is}
-use borrow.Author.Rules.{rules}
 use Rattle.whole.proofs.judge.Goals as goal
 
 pub returns-then-reply_check-ne0 : goal.returns-then-reply_check-ne0

@@ -3,7 +3,6 @@ use Rattle.meaning.proofs.Says.{says_false, says_true}
 use native.Mathlib.Omega.{arith}
 use Rattle.meaning.specs.Says.{nay}
 use Rattle.whole.proofs.Pieces.{laid_tested, laid_says}
-use borrow.Author.Rules.{rules}
 use Rattle.whole.proofs.laid.Goals as goal
 
 pub returns-then-store-used : goal.returns-then-store-used

@@ -1,12 +1,10 @@
-use Prim.Native.Nat.{ℕ, ◌-◌, ◌≤◌, ◌<◌}
-use mathlib.Core.Path.{◌≡◌, refl, ◌∙◌}
+use Prim.Native.Nat.{◌<◌}
+use mathlib.Core.Path.{refl, ◌∙◌}
 use native.Mathlib.Omega.{arith}
-use lib.ListN.{length}
 use Rattle.meaning.specs.Says.{aye, nay}
 use Rattle.meaning.specs.Register.{parent_of}
 use Rattle.reply.proofs.Lists.{up_to_suc}
 use Rattle.whole.proofs.Children.{same_at}
-use borrow.Author.Rules.{rules}
 use Rattle.whole.proofs.layout_ok.Goals as goal
 
 pub returns-then-parts-lt1 : goal.returns-then-parts-lt1

@@ -1,13 +1,8 @@
 -- `whole::layout_ok` meets its contract.
 use Prim.Native.Nat.{ℕ, ◌-◌, ◌≤◌, ◌<◌}
-use mathlib.Core.Path.{◌≡◌, refl, ◌∙◌}
-use native.Mathlib.Omega.{arith}
+use mathlib.Core.Path.{◌≡◌}
 use lib.ListN.{length}
-use Rattle.meaning.specs.Says.{aye, nay}
 use Rattle.meaning.specs.Register.{parent_of}
-use Rattle.reply.proofs.Lists.{up_to_suc}
-use Rattle.whole.proofs.Children.{same_at}
-use borrow.Author.Rules.{rules}
 use Rattle.whole.proofs.layout_ok.Given as goal
 
 abbrev pub invariant-loop-k : goal.invariant-loop-k

@@ -1,4 +1,4 @@
-use Prim.Native.Nat.{ℕ, ◌-◌, ◌≤◌, ◌<◌}
+use Prim.Native.Nat.{◌<◌}
 use mathlib.Core.Path.{◌≡◌, ap, ◌∙◌}
 use native.Mathlib.Omega.{arith}
 use lib.ListN.{length}
@@ -7,7 +7,6 @@ use Rattle.meaning.specs.Register.{parent_of}
 use Rattle.reply.specs.inner.Decode.{in_at}
 use Rattle.reply.proofs.Lists.{up_to_suc}
 use Rattle.whole.proofs.Children.{same_at}
-use borrow.Author.Rules.{rules}
 use Rattle.whole.proofs.only_children.Goals as goal
 
 pub loop-i-init : goal.loop-i-init

@@ -1,14 +1,9 @@
 -- `whole::only_children` meets its contract.
 use Prim.Native.Nat.{ℕ, ◌-◌, ◌≤◌, ◌<◌}
-use mathlib.Core.Path.{◌≡◌, ap, ◌∙◌}
-use native.Mathlib.Omega.{arith}
+use mathlib.Core.Path.{◌≡◌}
 use lib.ListN.{length}
-use Rattle.meaning.specs.Says.{aye, nay}
 use Rattle.meaning.specs.Register.{parent_of}
 use Rattle.reply.specs.inner.Decode.{in_at}
-use Rattle.reply.proofs.Lists.{up_to_suc}
-use Rattle.whole.proofs.Children.{same_at}
-use borrow.Author.Rules.{rules}
 use Rattle.whole.proofs.only_children.Given as goal
 
 abbrev pub invariant-loop-i : goal.invariant-loop-i

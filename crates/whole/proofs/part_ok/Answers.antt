@@ -2,7 +2,6 @@
 use Rattle.meaning.specs.Says.{nay}
 use Rattle.reply.proofs.Tests.{says_eq}
 use Rattle.whole.proofs.Pieces.{part_says, part_not, long_enough}
-use borrow.Author.Rules.{rules}
 use Rattle.whole.proofs.part_ok.Goals as goal
 
 pub returns-then-judge-ne0 : goal.returns-then-judge-ne0

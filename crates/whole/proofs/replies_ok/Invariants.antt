@@ -1,14 +1,6 @@
 -- `whole::replies_ok` meets its contract.
-use Rattle.meaning.proofs.Says.{says_false, says_true}
 use Prim.Native.Nat.{ℕ, ◌-◌, ◌≤◌, ◌<◌}
-use mathlib.Core.Path.{refl, sym, subst}
-use mathlib.Core.Logic.{⊎_elim}
-use native.Mathlib.Omega.{arith}
-use borrow.Author.Rules.{rules}
-use Rattle.meaning.specs.Says.{aye, nay}
-use Rattle.reply.proofs.Lists.{up_to_suc}
-use Rattle.whole.specs.Whole.{Heard, start_of, size_of, part_of, Own}
-use Rattle.whole.proofs.Pieces.{part_is}
+use Rattle.whole.specs.Whole.{Heard, part_of, Own}
 use Rattle.whole.proofs.replies_ok.Given as goal
 
 abbrev pub invariant-loop-f : goal.invariant-loop-f

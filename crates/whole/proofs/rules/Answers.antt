@@ -2,7 +2,6 @@
 use native.Mathlib.Omega.{arith}
 use Rattle.meaning.specs.Says.{nay}
 use Rattle.whole.proofs.Pieces.{front_is, rules_says}
-use borrow.Author.Rules.{rules}
 use Rattle.whole.proofs.rules.Goals as goal
 
 pub returns-then-parts-gt32 : goal.returns-then-parts-gt32

@@ -1,10 +1,7 @@
 -- `whole::stands_for` meets its contract.
 use Prim.Native.Nat.{ℕ, ◌-◌, ◌≤◌, ◌<◌}
-use mathlib.Core.Path.{◌≡◌, sym, ◌∙◌}
-use native.Mathlib.Omega.{arith}
-use Rattle.meaning.specs.Says.{aye, nay}
+use mathlib.Core.Path.{◌≡◌}
 use Rattle.reply.specs.inner.Decode.{in_at}
-use Rattle.reply.proofs.Lists.{up_to_suc}
 use Rattle.whole.proofs.stands_for.Given as goal
 
 abbrev pub invariant-loop-i : goal.invariant-loop-i

@@ -1,10 +1,6 @@
 -- `whole::starts` meets its contract.
 use Prim.Native.Nat.{ℕ, ◌-◌, ◌≤◌, ◌<◌}
 use mathlib.Core.Path.{◌≡◌}
-use native.Mathlib.Omega.{arith}
-use Rattle.meaning.specs.Says.{aye, nay}
-use Rattle.meaning.proofs.Says.{says_true, says_false}
-use Rattle.reply.proofs.Lists.{up_to_suc}
 use Rattle.whole.specs.inner.Steps.{HeardIn, number_in}
 use Rattle.whole.proofs.starts.Given as goal
 

@@ -3,7 +3,6 @@ use Rattle.meaning.proofs.Says.{says_false, says_iff, says_true}
 use native.Mathlib.Omega.{arith}
 use Rattle.meaning.specs.Says.{aye, nay}
 use Rattle.whole.specs.inner.Steps.{number_in}
-use borrow.Author.Rules.{rules}
 use Rattle.whole.proofs.tile_ok.Goals as goal
 
 pub returns-then-not-is_heard : goal.returns-then-not-is_heard

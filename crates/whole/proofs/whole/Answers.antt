@@ -2,7 +2,6 @@
 use Rattle.meaning.proofs.Says.{says_false, says_true}
 use Rattle.meaning.specs.Says.{nay}
 use Rattle.whole.proofs.Pieces.{whole_fresh, not_fresh, whole_open, whole_rules}
-use borrow.Author.Rules.{rules}
 use Rattle.whole.proofs.whole.Goals as goal
 
 pub returns-then-desk-ne0 : goal.returns-then-desk-ne0

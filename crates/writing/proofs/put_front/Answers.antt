@@ -1,7 +1,6 @@
 -- `writing::put_front` meets its contract.
 use native.Mathlib.Omega.{arith}
 use Rattle.bits.proofs.Laws.{wrote_append}
-use borrow.Author.Rules.{rules}
 use Rattle.writing.proofs.put_front.Goals as goal
 
 pub returns : goal.returns

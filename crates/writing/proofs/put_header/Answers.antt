@@ -3,7 +3,6 @@ use mathlib.Core.Path.{refl}
 use native.Mathlib.Omega.{arith}
 use Rattle.bits.proofs.Laws.{wrote_append}
 use Rattle.reply.specs.Write.{head_bits}
-use borrow.Author.Rules.{rules}
 use Rattle.writing.proofs.put_header.Goals as goal
 
 pub put-b-requires : goal.put-b-requires

@@ -1,11 +1,8 @@
-use Prim.Native.Nat.{◌+◌, ◌-◌, ◌*◌, ◌≤◌, ◌<◌}
+use Prim.Native.Nat.{◌<◌}
 use mathlib.Core.Path.{◌≡◌}
 use native.Mathlib.Omega.{arith}
-use lib.ListN.{length}
 use Rattle.bits.specs.Bits.{digits}
-use Rattle.bits.specs.Fields.{Wrote}
 use Rattle.bits.proofs.Laws.{wrote_none, wrote_append}
-use Rattle.reply.specs.Write.{each}
 use Rattle.writing.specs.inner.Codes.{bare}
 use Rattle.meaning.specs.Fragment.{row_count}
 use Rattle.reply.proofs.Lists.{each_append}

@@ -1,16 +1,13 @@
 -- `writing::put_ins` meets its contract.
-use Prim.Native.Nat.{◌+◌, ◌-◌, ◌*◌, ◌≤◌, ◌<◌}
+use Prim.Native.Nat.{◌+◌, ◌-◌, ◌*◌, ◌≤◌}
 use mathlib.Core.Path.{◌≡◌}
-use native.Mathlib.Omega.{arith}
 use lib.ListN.{length}
 use Rattle.bits.specs.Bits.{digits}
 use Rattle.bits.specs.Fields.{Wrote}
-use Rattle.bits.proofs.Laws.{wrote_none, wrote_append}
 use Rattle.reply.specs.Write.{each}
 use Rattle.writing.specs.inner.Codes.{bare}
 use Rattle.meaning.specs.Fragment.{row_count}
-use Rattle.reply.proofs.Lists.{each_append}
-use Rattle.writing.proofs.Codes.{rows_none, first_ins, row_at, ins_none, ins_more, ins_longer, ins_room, ins_all}
+use Rattle.writing.proofs.Codes.{first_ins}
 use Rattle.writing.proofs.put_ins.Given as goal
 
 abbrev pub invariant-loop-k : goal.invariant-loop-k

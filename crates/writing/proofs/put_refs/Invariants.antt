@@ -1,14 +1,10 @@
 -- `writing::put_refs` meets its contract.
-use Prim.Native.Nat.{◌+◌, ◌-◌, ◌*◌, ◌≤◌, ◌<◌}
+use Prim.Native.Nat.{◌+◌, ◌-◌, ◌*◌, ◌≤◌}
 use mathlib.Core.Path.{◌≡◌}
-use native.Mathlib.Omega.{arith}
 use Rattle.bits.specs.Fields.{Wrote}
-use Rattle.bits.proofs.Laws.{wrote_none, wrote_append}
 use Rattle.reply.specs.Write.{ref_bits, each}
 use Rattle.reply.specs.inner.Decode.{ref_width}
-use Rattle.reply.proofs.Judge.{next_place, first_place, room_here}
 use Rattle.writing.specs.inner.Codes.{refs_at}
-use Rattle.writing.proofs.Codes.{refs_none, refs_more}
 use Rattle.writing.proofs.put_refs.Given as goal
 
 abbrev pub invariant-loop-e : goal.invariant-loop-e

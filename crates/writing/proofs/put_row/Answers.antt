@@ -2,7 +2,6 @@
 use native.Mathlib.Omega.{arith}
 use Rattle.bits.proofs.Laws.{wrote_none}
 use Rattle.writing.proofs.Codes.{row_other, row_one, rows_none, rows_one}
-use borrow.Author.Rules.{rules}
 use Rattle.writing.proofs.put_row.Goals as goal
 
 pub returns-then-kind-ne1 : goal.returns-then-kind-ne1

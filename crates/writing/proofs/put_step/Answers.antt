@@ -2,7 +2,6 @@
 use native.Mathlib.Omega.{arith}
 use Rattle.bits.proofs.Laws.{wrote_append}
 use Rattle.writing.proofs.Codes.{step_code}
-use borrow.Author.Rules.{rules}
 use Rattle.writing.proofs.put_step.Goals as goal
 
 pub returns : goal.returns

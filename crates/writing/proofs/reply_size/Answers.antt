@@ -1,7 +1,6 @@
 -- `writing::reply_size` meets its contract.
 use native.Mathlib.Omega.{arith}
 use Rattle.writing.proofs.Codes.{parts_most}
-use borrow.Author.Rules.{rules}
 use Rattle.writing.proofs.reply_size.Goals as goal
 
 pub overflow_mul-result-2 : goal.overflow_mul-result-2

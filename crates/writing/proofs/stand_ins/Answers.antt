@@ -1,11 +1,8 @@
-use borrow.Author.Rules.{rules}
-use Prim.Native.Nat.{◌-◌, ◌≤◌}
 use mathlib.Core.Path.{◌≡◌, refl}
 use native.Mathlib.Omega.{arith}
-use lib.ListN.{length}
 use Rattle.writing.specs.inner.Codes.{bare}
 use Rattle.meaning.specs.Fragment.{num, row_count}
-use Rattle.writing.proofs.Codes.{row_few, first_ins, ins_none, ins_longer, ins_all}
+use Rattle.writing.proofs.Codes.{row_few, ins_none, ins_longer, ins_all}
 use Rattle.writing.proofs.stand_ins.Goals as goal
 
 pub loop-k-init : goal.loop-k-init

@@ -1,12 +1,10 @@
 -- `writing::stand_ins` meets its contract.
-use borrow.Author.Rules.{rules}
 use Prim.Native.Nat.{◌-◌, ◌≤◌}
-use mathlib.Core.Path.{◌≡◌, refl}
-use native.Mathlib.Omega.{arith}
+use mathlib.Core.Path.{◌≡◌}
 use lib.ListN.{length}
 use Rattle.writing.specs.inner.Codes.{bare}
-use Rattle.meaning.specs.Fragment.{num, row_count}
-use Rattle.writing.proofs.Codes.{row_few, first_ins, ins_none, ins_longer, ins_all}
+use Rattle.meaning.specs.Fragment.{row_count}
+use Rattle.writing.proofs.Codes.{first_ins}
 use Rattle.writing.proofs.stand_ins.Given as goal
 
 abbrev pub invariant-loop-k : goal.invariant-loop-k

@@ -1,12 +1,10 @@
 use native.Mathlib.Nat.{sub_self}
-use mathlib.Core.Bool.{false}
-use lib.ListN.{replicate}
 use Rattle.bits.specs.Bits.{digits}
 use Rattle.bits.specs.Fields.{field_at}
 use Rattle.bits.specs.inner.Stand.{BitsStand}
 use Rattle.bits.proofs.Digits.{zeros_more}
 use Rattle.bits.proofs.Laws.{stand_none, stand_append, field_stand, field_lt, blank_bit}
-use Prim.Native.Nat.{ℕ, ◌+◌, ◌-◌, ◌≤◌}
+use Prim.Native.Nat.{ℕ, ◌+◌, ◌-◌}
 use mathlib.Core.Path.{◌≡◌, refl}
 use native.Mathlib.Omega.{arith}
 use Rattle.bits.proofs.Cursor.blank.Goals as goal

@@ -1,10 +1,7 @@
 use native.Mathlib.Nat.{sub_self}
-use mathlib.Core.Bool.{false}
-use lib.ListN.{replicate}
-use Rattle.bits.specs.Fields.{Wrote}
 use Rattle.bits.proofs.Digits.{zeros_more}
 use Rattle.bits.proofs.Laws.{wrote_none, wrote_append}
-use Prim.Native.Nat.{◌+◌, ◌-◌, ◌≤◌}
+use Prim.Native.Nat.{◌+◌, ◌-◌}
 use mathlib.Core.Path.{◌≡◌}
 use native.Mathlib.Omega.{arith}
 use Rattle.bits.proofs.Cursor.pad.Goals as goal

@@ -1,13 +1,8 @@
 -- `bits::Cursor::pad` meets its contract. The invariant: the bits up to `at` are written.
-use native.Mathlib.Nat.{sub_self}
 use mathlib.Core.Bool.{false}
 use lib.ListN.{replicate}
 use Rattle.bits.specs.Fields.{Wrote}
-use Rattle.bits.proofs.Digits.{zeros_more}
-use Rattle.bits.proofs.Laws.{wrote_none, wrote_append}
-use Prim.Native.Nat.{◌+◌, ◌-◌, ◌≤◌}
-use mathlib.Core.Path.{◌≡◌}
-use native.Mathlib.Omega.{arith}
+use Prim.Native.Nat.{◌-◌, ◌≤◌}
 use Rattle.bits.proofs.Cursor.pad.Given as goal
 
 abbrev pub invariant-loop-at : goal.invariant-loop-at

@@ -1,9 +1,7 @@
-use Prim.Native.Nat.{◌+◌, ◌-◌, ◌/◌, ◌^◌, ◌≤◌}
 use mathlib.Core.Path.{◌≡◌, refl}
 use native.Mathlib.Nat.{add-zero, sub_self, div-one}
 use native.Mathlib.Omega.{arith}
 use Rattle.bits.specs.Bits.{digits}
-use Rattle.bits.specs.Fields.{Wrote}
 use Rattle.bits.proofs.Laws.{wrote_none, put_more}
 use Rattle.bits.proofs.Cursor.put.Goals as goal
 

@@ -1,13 +1,8 @@
 -- `bits::Cursor::take` meets its contract. The invariant: `value` is the number of the first i bits of the field.
 -- before a turn there is room for one bit more
-use Prim.Native.Nat.{◌-◌, ◌^◌, ◌≤◌, ◌<◌}
-use mathlib.Core.Path.{◌≡◌, refl}
-use native.Mathlib.Nat.{lt_of_lt_of_le}
-use native.Mathlib.Omega.{arith}
-use lib.Pow.{pow_mono}
-use Rattle.bits.specs.Bits.{number}
-use Rattle.bits.specs.Fields.{field_at, bits_at}
-use Rattle.bits.proofs.Laws.{field_lt, field_next, bit_lt}
+use Prim.Native.Nat.{◌-◌, ◌≤◌}
+use mathlib.Core.Path.{◌≡◌}
+use Rattle.bits.specs.Fields.{field_at}
 use Rattle.bits.proofs.Cursor.take.Given as goal
 
 abbrev pub invariant-loop-i : goal.invariant-loop-i

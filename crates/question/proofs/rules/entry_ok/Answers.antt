@@ -1,6 +1,5 @@
 use Rattle.meaning.proofs.Numbers.{says_ltb}
 use Rattle.question.proofs.Codes.{self_rule, word_rule, no_rule, child_rule, below_rule, not_rule, two_rule}
-use borrow.Author.Rules.{rules}
 use Rattle.question.proofs.rules.entry_ok.Goals as goal
 
 pub returns-then-kind-eq0 : goal.returns-then-kind-eq0

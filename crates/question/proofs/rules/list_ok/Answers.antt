@@ -1,11 +1,7 @@
 use borrow.Author.Rules.{rules}
 use native.Mathlib.Omega.{arith}
 use borrow.Author.Count.{below_more}
-use borrow.Author.Tests.{not-true, not-false}
-use Prim.Native.Nat.{ℕ, ◌-◌, ◌≤◌, ◌<◌}
-use lib.ListN.{get_or}
 use Rattle.meaning.specs.Says.{aye, nay}
-use Rattle.question.specs.Listed.{EntryRule}
 use Rattle.meaning.proofs.Says.{says_true, says_false}
 use Rattle.question.proofs.rules.list_ok.Goals as goal
 

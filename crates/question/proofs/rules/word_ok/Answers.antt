@@ -2,7 +2,6 @@ use native.Mathlib.Omega.{arith}
 use Rattle.meaning.specs.Says.{nay}
 use Rattle.meaning.proofs.Says.{says_iff}
 use Rattle.meaning.proofs.Numbers.{says_leb}
-use borrow.Author.Rules.{rules}
 use Rattle.question.proofs.rules.word_ok.Goals as goal
 
 pub returns-then-b-gt64 : goal.returns-then-b-gt64

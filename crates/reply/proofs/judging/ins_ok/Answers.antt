@@ -1,9 +1,8 @@
-use Prim.Native.Nat.{ℕ, ◌-◌, ◌≤◌, ◌<◌}
 use native.Mathlib.Omega.{arith}
 use Rattle.meaning.specs.Says.{aye, nay}
 use Rattle.reply.specs.inner.Checked.{InGood}
 use Rattle.reply.proofs.Lists.{up_to_suc}
-use Rattle.reply.proofs.Judge.{Met, met_none, met_more, in_good, in_low, in_met}
+use Rattle.reply.proofs.Judge.{met_none, met_more, in_good, in_low, in_met}
 use Rattle.reply.proofs.judging.ins_ok.Goals as goal
 
 pub loop-i-init : goal.loop-i-init

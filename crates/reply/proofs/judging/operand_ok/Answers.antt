@@ -2,7 +2,6 @@
 use native.Mathlib.Omega.{arith}
 use Rattle.meaning.specs.Says.{nay}
 use Rattle.meaning.proofs.Says.{says_iff}
-use borrow.Author.Rules.{rules}
 use Rattle.reply.proofs.judging.operand_ok.Goals as goal
 
 pub returns-then-kind-lt2 : goal.returns-then-kind-lt2

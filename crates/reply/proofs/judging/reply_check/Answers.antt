@@ -4,7 +4,6 @@ use Prim.Native.Nat.{ℕ}
 use mathlib.Core.Path.{◌≡◌}
 use native.Mathlib.Omega.{arith}
 use Rattle.reply.proofs.Verdicts.{bad, good, few_vars, s_most, s_size, s_ins, s_steps, s_refs, s_filled, all_checked}
-use borrow.Author.Rules.{rules}
 use Rattle.reply.proofs.judging.reply_check.Goals as goal
 
 pub returns-then-size-lt8 : goal.returns-then-size-lt8

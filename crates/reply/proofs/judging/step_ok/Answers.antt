@@ -4,7 +4,6 @@ use native.Mathlib.Omega.{arith}
 use Rattle.meaning.specs.Says.{nay}
 use Rattle.reply.proofs.Tests.{says_eq}
 use Rattle.reply.proofs.Judge.{step_first, step_low, step_other, step_not_no, step_not}
-use borrow.Author.Rules.{rules}
 use Rattle.reply.proofs.judging.step_ok.Goals as goal
 
 pub returns-then-not-a : goal.returns-then-not-a

@@ -1,13 +1,8 @@
 -- `reply::judging::steps_ok` meets its contract.
-use Rattle.meaning.proofs.Says.{says_false, says_true}
 use Prim.Native.Nat.{ℕ, ◌+◌, ◌-◌, ◌*◌, ◌≤◌, ◌<◌}
 use mathlib.Core.Path.{◌≡◌}
-use native.Mathlib.Omega.{arith}
-use Rattle.meaning.specs.Says.{aye, nay}
 use Rattle.reply.specs.inner.Decode.{step_width}
 use Rattle.reply.specs.inner.Checked.{StepGood}
-use Rattle.reply.proofs.Lists.{up_to_suc}
-use Rattle.reply.proofs.Judge.{step_good, next_place, first_place, room_here}
 use Rattle.reply.proofs.judging.steps_ok.Given as goal
 
 abbrev pub invariant-loop-i : goal.invariant-loop-i
