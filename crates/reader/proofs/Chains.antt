@@ -14,7 +14,7 @@ use Rattle.meaning.specs.Entry.{root}
 use Rattle.reader.specs.declared.State.{State}
 use Rattle.reader.specs.Packed.{word_place}
 use Rattle.reader.specs.inner.Reading.{added, moved, byte_at, reach, reach_conj, reach_unit, TreeOf, text_of, Follows, Made, MadeOf, slack, Reads, Chain, whole, item, sign, single, joined, grown, write_chain, GoesOn, Extends}
-use Rattle.reader.proofs.Text.{inside, head_at, cons_at}
+use Rattle.reader.proofs.Text.{head_at, cons_at}
 use Rattle.reader.proofs.Emit.{emit_or, emit_and}
 use Rattle.reader.proofs.Made.{left_over, after_byte, over_two, recast}
 

@@ -2,7 +2,7 @@
 use Prim.Native.Nat.{ℕ, suc, ◌+◌, ◌<◌, max}
 use native.Mathlib.Omega.{arith}
 use mathlib.Core.Path.{◌≡◌, refl, sym, ap, ◌∙◌, subst₂}
-use mathlib.Core.List.{List, [], ◌∷◌, ◌++◌, append_assoc, append_cancel_left}
+use mathlib.Core.List.{[], ◌∷◌, ◌++◌, append_assoc, append_cancel_left}
 use lib.ListN.{length, drop, length-append}
 use Rattle.meaning.specs.Bytes.{Bytes}
 use Rattle.meaning.specs.Term.{Term}

@@ -1,5 +1,5 @@
 -- From the state after the last form to the answer; and that there is one answer.
-use Prim.Native.Nat.{ℕ, ◌+◌, ◌≤◌, ◌<◌}
+use Prim.Native.Nat.{ℕ, ◌≤◌, ◌<◌}
 use native.Mathlib.Omega.{arith}
 use native.Mathlib.Nat.{zero-add}
 use native.Mathlib.Decide.{ℕ_discrete}
@@ -16,7 +16,6 @@ use Rattle.meaning.specs.Question.{Question, write_question}
 use Rattle.meaning.specs.Term.{normal}
 use Rattle.meaning.specs.Entry.{Entry}
 use Rattle.meaning.proofs.Entry.{flat_earlier}
-use Rattle.question.specs.declared.List as L
 use Rattle.reader.specs.declared.State.{State}
 use Rattle.reader.specs.declared.Answer.{Answer}
 use Rattle.reader.specs.Nesting.{nesting}

@@ -12,8 +12,7 @@ use Rattle.meaning.specs.Term.{normal}
 use Rattle.meaning.specs.Entry.{Entry, entries, Points, Earlier}
 use Rattle.meaning.specs.Reply.{tabulated}
 use Rattle.meaning.proofs.Entry.{flat_earlier, flat_length}
-use Rattle.question.specs.declared.List as L
-use Rattle.question.specs.Listed.{Place, Inside, entry_of, EntryRule, Keeps, listed}
+use Rattle.question.specs.Listed.{Place, entry_of, EntryRule, Keeps, listed}
 use Rattle.reader.specs.Packed.{word_place, placed_entries, padded, packed}
 use Rattle.reader.specs.inner.Reading.{kind_code, left_of, right_of}
 use Rattle.reader.proofs.Pack.{WordSmall, AllWordsSmall}

@@ -268,7 +268,7 @@ fn quoted(text: &[u8], s: State, kind: u8) -> State
 }
 
 // question := conj ('|' conj)*
-#[cycle(ands_conj_named_ors_path_question_rest_steps_unit)]
+#[cycle(reading)]
 fn question(text: &[u8], s: State) -> State
     requires { Ready text.now s }
     ensures { Reads Form.question text.now s result }
@@ -276,7 +276,7 @@ fn question(text: &[u8], s: State) -> State
     ors(text, conj(text, s))
 }
 
-#[cycle(ands_conj_named_ors_path_question_rest_steps_unit)]
+#[cycle(reading)]
 fn ors(text: &[u8], s: State) -> State
     requires { Ready text.now s }
     ensures { Extends Chain.ors text.now s result }
@@ -290,7 +290,7 @@ fn ors(text: &[u8], s: State) -> State
 }
 
 // conj := unit ('&' unit)*
-#[cycle(ands_conj_named_ors_path_question_rest_steps_unit)]
+#[cycle(reading)]
 fn conj(text: &[u8], s: State) -> State
     requires { Ready text.now s }
     ensures { Reads Form.conj text.now s result }
@@ -298,7 +298,7 @@ fn conj(text: &[u8], s: State) -> State
     ands(text, unit(text, s))
 }
 
-#[cycle(ands_conj_named_ors_path_question_rest_steps_unit)]
+#[cycle(reading)]
 fn ands(text: &[u8], s: State) -> State
     requires { Ready text.now s }
     ensures { Extends Chain.ands text.now s result }
@@ -312,7 +312,7 @@ fn ands(text: &[u8], s: State) -> State
 }
 
 // unit := '!' unit | '(' question ')' | label()= quoted | text()= quoted | path
-#[cycle(ands_conj_named_ors_path_question_rest_steps_unit)]
+#[cycle(reading)]
 fn unit(text: &[u8], s: State) -> State
     requires { Ready text.now s }
     ensures { Reads Form.unit text.now s result }
@@ -337,7 +337,7 @@ fn unit(text: &[u8], s: State) -> State
 }
 
 // path := '//' steps | steps
-#[cycle(ands_conj_named_ors_path_question_rest_steps_unit)]
+#[cycle(reading)]
 fn path(text: &[u8], s: State) -> State
     requires { Ready text.now s }
     ensures { Reads Form.path text.now s result }
@@ -351,7 +351,7 @@ fn path(text: &[u8], s: State) -> State
 }
 
 // steps := ('.' | '*' | name) rest
-#[cycle(ands_conj_named_ors_path_question_rest_steps_unit)]
+#[cycle(reading)]
 fn steps(text: &[u8], s: State) -> State
     requires { Ready text.now s }
     ensures { Reads Form.steps text.now s result }
@@ -371,7 +371,7 @@ fn steps(text: &[u8], s: State) -> State
     fail(s)
 }
 
-#[cycle(ands_conj_named_ors_path_question_rest_steps_unit)]
+#[cycle(reading)]
 fn named(text: &[u8], s: State) -> State
     requires ready { Ready text.now s }
     requires at_value { is_letter (byte_at text.now s.at) ≡ true }
@@ -389,7 +389,7 @@ fn named(text: &[u8], s: State) -> State
 }
 
 // rest := '[' question ']' rest | '/text()=' quoted | '//' steps | '/' steps | nothing
-#[cycle(ands_conj_named_ors_path_question_rest_steps_unit)]
+#[cycle(reading)]
 fn rest(text: &[u8], s: State) -> State
     requires { Ready text.now s }
     ensures { Reads Form.rest text.now s result }
