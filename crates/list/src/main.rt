@@ -1,68 +1,54 @@
 // Reads one written question from standard input, whole and without a newline, and prints its list, or `refused` and the number.
 #![tactic(auto)]
 
+ghost use Rattle.std.specs.Prelude.{◌≤◌, IfOk};
+
 use listing::question_listing;
 use question::List;
 use reader::question_read;
+use std::io::{self, Read, Write};
 
 // Room for 256 bytes tells every text that is too long, and no longer one is kept.
-fn main() {
+fn main(rt: HostRuntime) -> io::Result<()> {
     let mut room = [0u8; 256];
-    let got = io::read_full(0, &mut room);
-    if cut_short(got) {
-        io::write_all(2, b"list: standard input cannot be read\n");
-        return;
+    let Ok(got) = read_full(&mut rt.stdin(), &mut room) else {
+        return eprintln!(rt; "list: standard input cannot be read");
+    };
+    if answer(&rt, &room[..got]).is_err() {
+        return eprintln!(rt; "list: standard output cannot be written");
     }
-    answer(&room[..got]);
+    Ok(())
 }
 
-// Whether reading stopped before the text's end: a call that failed looks like the end, and the next one tells.
-fn cut_short(got: usize) -> bool {
-    if got == 256 {
-        return false;
+// Reads until the room is full or the text ends.
+fn read_full<R: Read>(from: &mut R, room: &mut [u8; 256]) -> io::Result<usize>
+    ensures { IfOk result (λ n. n ≤ 256) }
+{
+    let mut got = 0;
+    while got < 256 {
+        let n = from.read(&mut room[got..])?;
+        if n == 0 {
+            break;
+        }
+        got += n;
     }
-    let mut one = [0u8; 1];
-    libc::read(0, &mut one) != 0
+    Ok(got)
 }
 
-fn answer(text: &[u8]) {
+fn answer(rt: &impl Print, text: &[u8]) -> io::Result<()> {
     let answer = question_read(text);
-    if answer.refusal == 0 {
-        print_list(answer.list, text);
-        return;
+    if answer.refusal != 0 {
+        return println!(rt; "refused {}", answer.refusal);
     }
-    if !io::write_all(
-        1,
-        &[
-            b'r',
-            b'e',
-            b'f',
-            b'u',
-            b's',
-            b'e',
-            b'd',
-            b' ',
-            48 + (answer.refusal % 10) as u8,
-            b'\n',
-        ],
-    ) {
-        unwritten();
-    }
+    print_list(rt, answer.list, text)
 }
 
 // No listing has over 2,369 bytes, and the reader's lists keep their rules: there is always one to print.
-fn print_list(list: List, text: &[u8]) {
+fn print_list(rt: &impl Print, list: List, text: &[u8]) -> io::Result<()> {
     let mut page = [0u8; 2369];
-    let length = question_listing(list, text, &mut page);
-    if length > 2369 {
-        return;
+    let size = question_listing(list, text, &mut page);
+    if size > 2369 {
+        return Ok(());
     }
-    let size = io::count(length as isize, &page);
-    if !io::write_all(1, &page[..size]) {
-        unwritten();
-    }
-}
-
-fn unwritten() {
-    io::write_all(2, b"list: standard output cannot be written\n");
+    io::writer(rt).write_all(&page[..size])
 }

@@ -459,8 +459,7 @@ fn scan(text: &[u8]) -> Answer
     Answer { refusal: 0, list }
 }
 
-#[unsafe(no_mangle)]
-pub extern "C" fn question_read(text: &[u8]) -> Answer
+pub fn question_read(text: &[u8]) -> Answer
     ensures { Read text.now result }
 {
     let a = scan(text);

@@ -2,10 +2,13 @@
 // every order, each twice, and is asked after each.
 #![tactic(auto)]
 
+ghost use Rattle.std.specs.Prelude.{◌<◌};
+
 use depot::depot_reply;
 use desk::{accepted, asked_of, desk_fresh, opened};
 use question::List;
 use reader::question_read;
+use std::io;
 use whole::Record;
 
 // A desk, and whether all went as 01 says so far.
@@ -15,75 +18,50 @@ struct Turn {
     desk: Record,
 }
 
-fn main() {
-    io::write_all(1, b"   entries  reply bytes      answer  question\n");
-    show(b"a", b"//lift[brake/text()=\"B17\"]");
-    show(b"b", b"//lift[brake/text()=\"B09\"&!mark]");
-    show(b"c", b"//firm");
-    show(b"d", b"//.[label()=\"firm\"]");
-    show(b"e", b"lift");
-    show(b"f", b"site/lift");
-    show(b"g", b"text()=\"\"");
-    show(b"h", b"!.");
-    show(b"i", b"*/*/*");
-    show(b"j", b"*/*/*/*");
-    show(b"k", b"site[lift/mark]&site[lift/brake/text()=\"B17\"]");
-    show(b"l", b"site[lift/mark&lift/brake/text()=\"B17\"]");
-    io::write_all(
-        1,
-        b"every answer is the same in all six orders of the replies, each handed in twice\n",
-    );
+fn main(rt: HostRuntime) -> io::Result<()> {
+    println!(rt; "   entries  reply bytes      answer  question")?;
+    show(&rt, "a", "//lift[brake/text()=\"B17\"]")?;
+    show(&rt, "b", "//lift[brake/text()=\"B09\"&!mark]")?;
+    show(&rt, "c", "//firm")?;
+    show(&rt, "d", "//.[label()=\"firm\"]")?;
+    show(&rt, "e", "lift")?;
+    show(&rt, "f", "site/lift")?;
+    show(&rt, "g", "text()=\"\"")?;
+    show(&rt, "h", "!.")?;
+    show(&rt, "i", "*/*/*")?;
+    show(&rt, "j", "*/*/*/*")?;
+    show(&rt, "k", "site[lift/mark]&site[lift/brake/text()=\"B17\"]")?;
+    show(&rt, "l", "site[lift/mark&lift/brake/text()=\"B17\"]")?;
+    println!(rt; "every answer is the same in all six orders of the replies, each handed in twice")
 }
 
-fn show(name: &[u8], text: &[u8]) {
+fn show(rt: &impl Print, name: &str, question: &str) -> io::Result<()> {
+    let text = question.as_bytes();
     let read = question_read(text);
     let list = read.list;
     let mut out0 = [0u8; 512];
     let mut out1 = [0u8; 512];
     let mut out2 = [0u8; 512];
-    let size0 = reply0(text, list, &mut out0);
-    let size1 = reply1(text, list, &mut out1);
-    let size2 = reply2(text, list, &mut out2);
-    let n0 = io::count(size0, &out0);
-    let n1 = io::count(size1, &out1);
-    let n2 = io::count(size2, &out2);
-    io::write_all(1, name);
-    io::write_all(1, b"      ");
-    padded(list.count as u64);
-    padded(n0 as u64);
-    padded(n1 as u64);
-    padded(n2 as u64);
-    said(all_orders(list.count, &out0[..n0], &out1[..n1], &out2[..n2]));
-    io::write_all(1, text);
-    io::write_all(1, b"\n");
+    let n0 = reply0(text, list, &mut out0);
+    let n1 = reply1(text, list, &mut out1);
+    let n2 = reply2(text, list, &mut out2);
+    let count = list.count;
+    let answer = said(all_orders(count, &out0[..n0], &out1[..n1], &out2[..n2]));
+    println!(rt; "{name}      {count:>3}  {n0:>3}  {n1:>3}  {n2:>3}    {answer:<8}{question}")
 }
 
-// A number in a column of its own.
-fn padded(n: u64) {
-    if n < 10 {
-        io::write_all(1, b" ");
+fn said(answer: u8) -> &'static str {
+    match answer {
+        2 => "yes",
+        1 => "no",
+        _ => "WRONG",
     }
-    if n < 100 {
-        io::write_all(1, b" ");
-    }
-    io::print_decimal(1, n);
-    io::write_all(1, b"  ");
-}
-
-fn said(answer: u8) {
-    if answer == 2 {
-        io::write_all(1, b"  yes     ");
-        return;
-    }
-    if answer == 1 {
-        io::write_all(1, b"  no      ");
-        return;
-    }
-    io::write_all(1, b"  WRONG   ");
 }
 
 // A reply's size, which no refusal has.
-fn size_of(text: &[u8], list: List, rows: &[u32], fragment: u32, out: &mut [u8]) -> isize {
+fn size_of(text: &[u8], list: List, rows: &[u32], fragment: u32, out: &mut [u8]) -> usize
+    ensures { result < 512 }
+{
     let mut work = [0u16; 12800];
     let a = depot_reply(
         text,
@@ -95,14 +73,13 @@ fn size_of(text: &[u8], list: List, rows: &[u32], fragment: u32, out: &mut [u8])
         &mut work,
         out,
     );
-    if a.size < 512 {
-        return a.size as isize;
-    }
-    0
+    if a.size < 512 { a.size } else { 0 }
 }
 
 // Firm; site under it; a stand-in for 1 under firm, one for 2 under site.
-fn reply0(text: &[u8], list: List, out: &mut [u8]) -> isize {
+fn reply0(text: &[u8], list: List, out: &mut [u8]) -> usize
+    ensures { result < 512 }
+{
     let rows = [
         4294967295u32,
         0,
@@ -133,7 +110,9 @@ fn reply0(text: &[u8], list: List, out: &mut [u8]) -> isize {
 }
 
 // Site; lift under it; brake "B17" under that.
-fn reply1(text: &[u8], list: List, out: &mut [u8]) -> isize {
+fn reply1(text: &[u8], list: List, out: &mut [u8]) -> usize
+    ensures { result < 512 }
+{
     let rows = [
         4294967295u32,
         0,
@@ -158,7 +137,9 @@ fn reply1(text: &[u8], list: List, out: &mut [u8]) -> isize {
 }
 
 // Lift; under it brake "B09" and mark "done".
-fn reply2(text: &[u8], list: List, out: &mut [u8]) -> isize {
+fn reply2(text: &[u8], list: List, out: &mut [u8]) -> usize
+    ensures { result < 512 }
+{
     let rows = [
         4294967295u32,
         0,
