@@ -1,17 +1,17 @@
 -- A register in one box: the joined register is the fragment's own tree.
-use Prim.Native.Nat.{ℕ, zero, suc, ◌-◌, ◌≤◌, ◌<◌}
+use Prim.Native.Nat.{ℕ, zero, suc, ◌≤◌, ◌<◌}
 use native.Mathlib.Omega.{arith}
 use mathlib.Core.Path.{◌≡◌, refl, sym, ap, ◌∙◌, subst}
-use mathlib.Core.Bool.{Bool, true, false, cond, true≢false}
-use mathlib.Core.Logic.{◌⊎◌, inl, inr, ◌↔◌}
+use mathlib.Core.Bool.{false, cond, true≢false}
+use mathlib.Core.Logic.{inl, inr, ◌↔◌}
 use mathlib.Core.List.{[], ◌∷◌, ◌++◌}
-use lib.ListN.{length, get_or}
+use lib.ListN.{length}
 use Rattle.meaning.specs.Bytes.{Bytes}
 use Rattle.meaning.specs.Tree.{Tree, Below}
 use Rattle.meaning.specs.Term.{Term, Means}
-use Rattle.meaning.specs.Fragment.{Fragment, Sound, Rows, row_count, rows_of, ChildRow, alone, NoStandIn}
+use Rattle.meaning.specs.Fragment.{Fragment, Sound, row_count, rows_of, ChildRow, alone, NoStandIn}
 use Rattle.meaning.specs.Reply.{stand_ins}
-use Rattle.meaning.specs.Register.{Register, parts, rows_in, parent_of, StandsFor, Cut, JoinedChild, joined}
+use Rattle.meaning.specs.Register.{Register, Cut, JoinedChild, joined}
 
 -- a tree that lies in another, with all children, has the same meanings there
 module _ (s t : Tree) (at : s.N → t.N) (forth : (u v : s.N) → s.Child u v → t.Child (at u) (at v))

@@ -1,8 +1,8 @@
 -- Condition 2: a register in one box.
-use Prim.Native.Nat.{ℕ, zero, suc, ◌+◌, ◌-◌, ◌*◌, ◌^◌, ◌≤◌, ◌<◌}
+use Prim.Native.Nat.{ℕ, ◌+◌, ◌-◌, ◌*◌, ◌^◌, ◌≤◌, ◌<◌}
 use native.Mathlib.Omega.{arith}
 use mathlib.Core.Path.{◌≡◌, refl, sym, ap, ◌∙◌, subst}
-use mathlib.Core.Logic.{◌≢◌, ◌⊎◌, inl, inr, ◌↔◌}
+use mathlib.Core.Logic.{◌⊎◌, inl, inr, ◌↔◌}
 use mathlib.Core.List.Memᴰ
 use mathlib.Core.List.{List, [], ◌∷◌, ◌++◌, Memᴰ}
 use lib.ListN.{length, take, drop}
@@ -13,24 +13,23 @@ use Rattle.meaning.specs.Bytes.{Bytes}
 use Rattle.meaning.specs.Entry.{term}
 use Rattle.meaning.specs.Holds.{Holds}
 use Rattle.meaning.specs.Fragment.{Fragment, Sound, row_count, rows_of, alone, NoStandIn}
-use Rattle.meaning.specs.Reply.{Reply, laid_down}
+use Rattle.meaning.specs.Reply.{laid_down}
 use Rattle.question.specs.declared.List as L
-use Rattle.reader.specs.declared.Answer.{Answer}
 use Rattle.question.specs.Listed.{Keeps, listed}
 use Rattle.reader.specs.Packed.{placed_entries, packed}
 use Rattle.reader.specs.Read.{Written, ReadRefusal, Read}
-use Rattle.reader.proofs.Outcome.{one_read, read_taken, taken_list, read_keeps}
+use Rattle.reader.proofs.Outcome.{one_read, taken_list, read_keeps}
 use Rattle.reply.specs.Read.{Is}
 use Rattle.reply.proofs.Round.{size_is}
-use Rattle.depot.specs.Answer.{call, laid, bytes, Answered}
+use Rattle.depot.specs.Answer.{call, Answered}
 use Rattle.question.proofs.Listed.{keeps_earlier}
 use Rattle.meaning.proofs.StepBound.{no_steps}
-use Rattle.depot.proofs.Promised.{never_eight, laid_well_formed}
+use Rattle.depot.proofs.Promised.{never_eight}
 use Rattle.meaning.specs.Refused.{Unless, Granted}
-use Rattle.desk.specs.Calls.{Opens, Accepts, Asks}
+use Rattle.desk.specs.Calls.{Opens, Accepts}
 use Rattle.desk.proofs.Unique.{one_open_refusal}
 use Rattle.whole.specs.declared.Record.{Record}
-use Rattle.register.specs.Calls.{Event, Calls, HandedIn}
+use Rattle.register.specs.Calls.{Event, Calls}
 use Rattle.register.specs.Round.{Round, call_of, total, Meaning}
 use Rattle.register.specs.Promise.{OneBox, AllTaken, own_size, Condition2}
 use Rattle.register.proofs.Laid.{reply_of, bytes_of, Asked, LaidRoom, LaidHonest}

@@ -1,9 +1,9 @@
 -- Condition 3 and the step bound over the depots' own calls: what they sent is what is laid down.
-use Prim.Native.Nat.{ℕ, zero, suc, ◌+◌, ◌-◌, ◌^◌, ◌≤◌, ◌<◌}
+use Prim.Native.Nat.{ℕ, zero, suc, ◌^◌, ◌≤◌, ◌<◌}
 use native.Mathlib.Omega.{arith}
-use mathlib.Core.Path.{◌≡◌, refl, sym, ap, ◌∙◌, subst}
+use mathlib.Core.Path.{◌≡◌, sym, ap, ◌∙◌, subst}
 use mathlib.Core.Bool.{Bool}
-use mathlib.Core.Logic.{◌⊎◌, inl, inr, ◌↔◌}
+use mathlib.Core.Logic.{inl, inr, ◌↔◌}
 use mathlib.Core.List.{List}
 use lib.ListN.{length}
 use Rattle.meaning.specs.Bytes.{Bytes}
@@ -18,14 +18,12 @@ use Rattle.meaning.proofs.StepBound.{step_bound_lem}
 use Rattle.question.specs.Listed.{listed}
 use Rattle.question.proofs.Listed.{listed_length, keeps_earlier}
 use Rattle.reply.proofs.Round.{one_reply}
-use Rattle.reader.specs.Read.{Written, Read}
-use Rattle.reader.specs.declared.Answer.{Answer}
 use Rattle.reply.specs.Read.{Is}
 use Rattle.desk.specs.Calls.{Accepts}
 use Rattle.whole.specs.declared.Record.{Record}
 use Rattle.register.specs.Calls.{Event, HandedIn}
-use Rattle.register.specs.Round.{Round, call_of, Replied, SentBy, PartIn, Honest, Roomy, Meaning, total}
-use Rattle.register.specs.Promise.{Tells, Faithful, Kept, Condition3, Bounded, StepsBounded}
+use Rattle.register.specs.Round.{Round, call_of, Replied, PartIn, Honest, Roomy, Meaning, total}
+use Rattle.register.specs.Promise.{Tells, Faithful, Condition3, StepsBounded}
 use Rattle.register.proofs.Laid.{Granting, granting, reply_of, bytes_of, Asked, LaidRoom, LaidHonest, LaidFaithful, sent_is, is_sent, all_asked}
 use Rattle.register.proofs.Verdicts.{is_laid, same_reply, laid_fragment}
 use Rattle.register.proofs.Trace.{laid_faithful}

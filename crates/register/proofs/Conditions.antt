@@ -1,18 +1,14 @@
 -- The conditions of acceptance, but for condition 3 (`Trace`).
-use Prim.Native.Nat.{ℕ, zero, suc, ◌+◌, ◌-◌, ◌*◌, ◌^◌, ◌≤◌, ◌<◌}
+use Prim.Native.Nat.{ℕ, ◌-◌, ◌<◌}
 use native.Mathlib.Omega.{arith}
 use mathlib.Core.Path.{◌≡◌, refl, sym, ap, ◌∙◌, subst}
-use mathlib.Core.Bool.{Bool, true, false}
-use mathlib.Core.Logic.{◌≢◌, ◌⊎◌, inl, inr, ◌↔◌}
-use mathlib.Core.List.{List, [], ◌∷◌, ◌++◌, Memᴰ}
-use lib.ListN.{length, get_or, take, drop, replicate, get_or-replicate}
-use lib.Seq.{take-append_seam}
+use mathlib.Core.Logic.{◌≢◌, ◌↔◌}
+use lib.ListN.{length, get_or, get_or-replicate}
 use Rattle.meaning.specs.Bytes.{Bytes}
 use Rattle.meaning.specs.Tree.{Tree}
-use Rattle.meaning.specs.Entry.{Entry, entries, top, EntryHolds}
+use Rattle.meaning.specs.Entry.{entries, top, EntryHolds}
 use Rattle.meaning.specs.Holds.{Holds}
 use Rattle.meaning.specs.Reply.{Reply}
-use Rattle.meaning.specs.Register.{rows_in, joined}
 use Rattle.meaning.proofs.Entry.{readers_list, last_entry}
 use Rattle.meaning.proofs.Solve.{waits}
 use Rattle.question.specs.Listed.{listed}
@@ -29,7 +25,7 @@ use Rattle.question.proofs.Listed.{listed_length}
 use Rattle.meaning.specs.Refused.{Unless, Granted}
 use Rattle.whole.specs.Whole.{Whole, Heard}
 use Rattle.desk.specs.Changed.{opened_as}
-use Rattle.desk.specs.Calls.{Opens, Accepts, Asks, Why, said_of}
+use Rattle.desk.specs.Calls.{Accepts, Asks, said_of}
 use Rattle.desk.proofs.Unique.{one_why, one_ask_refusal}
 use Rattle.meaning.proofs.Refused.{through}
 use Rattle.desk.proofs.Keeping.{opening_whole}

@@ -1,19 +1,18 @@
 -- The single table, by computing.
-use Prim.Native.Nat.{ℕ, zero, suc, ◌+◌, ◌*◌, ◌^◌, ◌≤◌, ◌<◌}
+use Prim.Native.Nat.{ℕ, zero, suc, ◌*◌, ◌≤◌, ◌<◌}
 use native.Mathlib.Omega.{arith}
 use mathlib.Core.Path.{◌≡◌, refl, sym, ap, ◌∙◌, subst}
 use mathlib.Core.Bool.{Bool, true, false}
 use mathlib.Core.Option.{some}
-use mathlib.Core.List.{List, [], ◌∷◌}
 use lib.ListN.{length}
 use lib.Dec.{T, lit<, lit≤}
 use Rattle.meaning.specs.Says.{Says}
 use Rattle.meaning.specs.Bytes.{Bytes, ascii, same_bytes, label_is, text_is}
 use Rattle.meaning.specs.Holds.{Holds}
-use Rattle.meaning.specs.Question.{Question, Conj, OneUnit, Steps, Rest, Begin, Sign, Move, Name, Quoted, is_name, is_quoted, all}
+use Rattle.meaning.specs.Question.{Question, Conj, OneUnit, Steps, Rest, Begin, Sign, Move, Quoted, is_name, is_quoted, all}
 use Rattle.meaning.specs.Question.{write_question}
 use Rattle.meaning.specs.Term.{normal}
-use Rattle.meaning.specs.Entry.{Entry, entries, root, flat}
+use Rattle.meaning.specs.Entry.{entries, root, flat}
 use Rattle.meaning.specs.Formula.{step_values}
 use Rattle.meaning.specs.Bound.{count, step_bound}
 use Rattle.meaning.specs.Run.{visit, push, row, deliver, sweep, run}
@@ -28,7 +27,6 @@ use Rattle.reader.specs.Read.{Written, ReadRefusal, Read}
 use Rattle.reader.proofs.Outcome.{read_taken, taken_list, read_keeps, read_listed}
 use Rattle.question.proofs.Listed.{listed_length, keeps_earlier}
 use Rattle.meaning.proofs.StepBound.{bounded, no_steps}
-use Rattle.register.specs.Round.{Round, call_of}
 use Rattle.register.proofs.Laid.{reply_of, Asked, all_replied}
 use Rattle.register.specs.Trial.{fragment, register, round, Case, Table}
 use Rattle.register.proofs.Tried.{cut, is_open, tells, one_box, none_1, none_2}

@@ -1,13 +1,13 @@
 -- The calls keep the desk ready: what is held is what was handed in.
-use Prim.Native.Nat.{ℕ, zero, suc, ◌+◌, ◌-◌, ◌≤◌, ◌<◌}
+use Prim.Native.Nat.{ℕ, ◌-◌, ◌<◌}
 use native.Mathlib.Omega.{arith}
 use native.Mathlib.Decide.{ℕ_discrete}
 use mathlib.Core.Path.{◌≡◌, refl, sym, ap, ◌∙◌, subst}
-use mathlib.Core.Bool.{Bool, true, false, not, cond, true≢false}
+use mathlib.Core.Bool.{Bool, true, false, not, true≢false}
 use mathlib.Core.Logic.{◌≢◌, ◌⊎◌, inl, inr}
 use mathlib.Core.List.Memᴰ
-use mathlib.Core.List.{List, [], ◌∷◌, ◌++◌, Memᴰ}
-use lib.ListN.{length, get_or, take, set, replicate, length-set, length-replicate, get_or-replicate}
+use mathlib.Core.List.{List, [], ◌∷◌, Memᴰ}
+use lib.ListN.{length, get_or, replicate, length-set, length-replicate, get_or-replicate}
 use lib.Seq.{take-append_seam}
 use lib.Dec.{eqb}
 use Rattle.meaning.specs.Bytes.{Bytes}
@@ -15,18 +15,18 @@ use Rattle.meaning.specs.Reply.{Reply}
 use Rattle.meaning.proofs.Numbers.{eqb_false}
 use Rattle.reply.specs.Write.{write}
 use Rattle.reply.specs.Read.{Is}
-use Rattle.whole.specs.Whole.{Whole, Opened, Heard, part_of, layout_of, Sizes}
+use Rattle.whole.specs.Whole.{Whole, Opened, Heard, part_of}
 use Rattle.desk.specs.Changed.{opened_as, noted, put_at}
-use Rattle.desk.specs.Calls.{Opens, Accepts, Asks, Why}
+use Rattle.desk.specs.Calls.{Opens, Accepts, Why}
 use Rattle.desk.proofs.Unique.{one_why, Passed, passed}
 use Rattle.desk.proofs.Keeping as Keeping
 use Rattle.whole.specs.declared.Question.{Question}
 use Rattle.whole.specs.declared.Record.{Record}
 use Rattle.register.specs.Calls.{Event, Calls, HandedIn}
-use Rattle.register.specs.Round.{Round, total}
+use Rattle.register.specs.Round.{Round}
 use Rattle.register.proofs.Laid.{reply_of, bytes_of, Asked, LaidRoom, LaidHonest, LaidFaithful}
-use Rattle.register.proofs.Sums.{weigh, more, empty}
-use Rattle.register.proofs.Verdicts.{heard_bit, Ready, size_of, many, is_laid, same_reply, laid_fragment, told, takes, repeats, no_reply, foreign, waits_for, answers, bit_on, silent}
+use Rattle.register.proofs.Sums.{more, empty}
+use Rattle.register.proofs.Verdicts.{heard_bit, Ready, size_of, many, is_laid, same_reply, laid_fragment, told, takes, repeats, no_reply, foreign, waits_for, answers}
 
 abbrev pub is_handed : Event → Bool
 is_handed (Event.handed s n) = true

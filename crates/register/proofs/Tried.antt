@@ -1,19 +1,17 @@
 -- The register to try is cut by its layout, and no depot refuses a question about it.
-use Prim.Native.Nat.{ℕ, zero, suc, ◌+◌, ◌-◌, ◌*◌, ◌^◌, ◌≤◌, ◌<◌}
+use Prim.Native.Nat.{ℕ, zero, suc, ◌+◌, ◌-◌, ◌≤◌, ◌<◌}
 use native.Mathlib.Omega.{arith}
-use mathlib.Core.Path.{◌≡◌, refl, sym, ap, ◌∙◌, subst}
+use mathlib.Core.Path.{◌≡◌, refl, sym, ◌∙◌, subst}
 use mathlib.Core.Bool.{Bool, true, false, true≢false, false≢true}
-use mathlib.Core.Logic.{◌⊎◌, inl, inr, ◌≢◌}
-use mathlib.Core.List.{List, [], ◌∷◌}
-use lib.ListN.{length, get_or}
+use mathlib.Core.Logic.{inl, inr, ◌≢◌}
+use lib.ListN.{length}
 use lib.Dec.{ltb, lit<, lit≤}
 use Rattle.meaning.specs.Says.{Says, aye, nay}
-use Rattle.meaning.specs.Bytes.{Bytes, ascii}
 use Rattle.meaning.specs.Tree.{Below}
-use Rattle.meaning.specs.Bound.{Open, step_bound, count}
-use Rattle.meaning.specs.Fragment.{Fragment, Sound, RowRule, RealRow, StandIn, num, row_count, rows_of, ChildRow, alone, NoStandIn}
-use Rattle.meaning.specs.Register.{Register, Layout, parts, rows_in, parent_of, StandsFor, Cut}
-use Rattle.register.specs.Trial.{pool, fragment, register}
+use Rattle.meaning.specs.Bound.{Open}
+use Rattle.meaning.specs.Fragment.{Fragment, Sound, RowRule, RealRow, StandIn, num, row_count, rows_of, alone, NoStandIn}
+use Rattle.meaning.specs.Register.{rows_in, parent_of, StandsFor, Cut}
+use Rattle.register.specs.Trial.{fragment, register}
 
 -- a real row whose numbers pass
 real : (F : Fragment) (k : ℕ) → num F k 1 ≡ 0 → 1 ≤ num F k 3 → num F k 3 ≤ 64 → num F k 2 + num F k 3 ≤ length F.pool → num F k 5 ≤ 255 → num F k 4 + num F k 5 ≤ length F.pool → RealRow F k

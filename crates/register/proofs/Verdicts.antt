@@ -1,27 +1,24 @@
 -- A desk that holds the replies laid down for the parts handed in, and what it answers.
-use Prim.Native.Nat.{ℕ, zero, suc, ◌+◌, ◌-◌, ◌≤◌, ◌<◌}
+use Prim.Native.Nat.{ℕ, ◌+◌, ◌≤◌, ◌<◌}
 use native.Mathlib.Omega.{arith}
 use native.Mathlib.Decide.{ℕ_discrete}
 use mathlib.Core.Path.{◌≡◌, refl, sym, ap, ◌∙◌, subst}
 use mathlib.Core.Bool.{Bool, true, false, not}
 use mathlib.Core.Logic.{◌≢◌, ◌⊎◌, inl, inr}
 use mathlib.Core.Option.{Option, some}
-use mathlib.Core.List.{List, Memᴰ}
-use lib.ListN.{length, get_or, take, set}
+use lib.ListN.{length, get_or}
 use lib.Dec.{eqb}
 use Rattle.meaning.specs.Says.{Says, aye, nay}
 use Rattle.meaning.specs.Bytes.{Bytes}
 use Rattle.meaning.specs.Reply.{Reply, laid_down}
-use Rattle.meaning.specs.Register.{parts, children_of}
-use Rattle.meaning.specs.Entry.{Entry}
+use Rattle.meaning.specs.Register.{parts}
 use Rattle.meaning.specs.Lawful.{Lawful, HereIn, LowerIn}
-use Rattle.meaning.specs.Solve.{Outcome, waiting, said, outcome}
+use Rattle.meaning.specs.Solve.{said, outcome}
 use Rattle.meaning.proofs.Numbers.{eqb_false}
 use Rattle.meaning.proofs.Register.{children}
 use Rattle.meaning.proofs.Lawful.{depot_lawful}
 use Rattle.meaning.proofs.Solve.{waits, solves}
 use Rattle.question.specs.Listed.{listed}
-use Rattle.reply.specs.Write.{write}
 use Rattle.reply.specs.WellFormed.{WellFormed}
 use Rattle.reply.specs.Read.{Is}
 use Rattle.reply.proofs.Round.{fits_12, one_reply}
@@ -29,13 +26,13 @@ use Rattle.question.proofs.Listed.{listed_length, keeps_earlier}
 use Rattle.depot.proofs.Promised.{laid_well_formed}
 use Rattle.meaning.specs.Refused.{Unless, Granted}
 use Rattle.whole.specs.Whole.{Whole, Opened, Heard, Shaped, layout_of, part_of, Sizes}
-use Rattle.desk.specs.Calls.{Opens, Accepts, Asks, Why, Room, Held, said_of, AskRefusal}
-use Rattle.desk.proofs.Unique.{one_why, one_ask_refusal}
+use Rattle.desk.specs.Calls.{Asks, Why, Room, Held, said_of, AskRefusal}
+use Rattle.desk.proofs.Unique.{one_ask_refusal}
 use Rattle.whole.specs.declared.Question.{Question}
 use Rattle.whole.specs.declared.Record.{Record}
 use Rattle.register.specs.Round.{Round, call_of, total, Meaning}
 use Rattle.register.proofs.Laid.{reply_of, bytes_of, Asked}
-use Rattle.register.proofs.Sums.{weigh, spare, more}
+use Rattle.register.proofs.Sums.{weigh, spare}
 
 -- the desk has heard f
 abbrev pub heard_bit : Question → ℕ → Bool

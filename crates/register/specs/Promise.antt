@@ -19,7 +19,7 @@ use Rattle.depot.specs.Answer.{Call, call, laid, Answered}
 use Rattle.desk.specs.Calls.{Opens, Accepts, Asks}
 use Rattle.whole.specs.declared.Record.{Record}
 use Rattle.register.specs.Calls.{Event, Calls}
-use Rattle.register.specs.Round.{Round, call_of, Replied, SentBy, PartIn, Honest, Roomy, Meaning}
+use Rattle.register.specs.Round.{Round, Replied, SentBy, PartIn, Honest, Roomy, Meaning}
 
 -- asking says yes (2) and A holds, or no (1) and it does not
 abbrev pub Tells : Type 0 → ℕ → Type 0
