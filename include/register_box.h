@@ -15,7 +15,8 @@
    says (with length 0 it may be null), is aligned for its type, and that what a call may write overlaps nothing else that it is lent. No
    call keeps a pointer, allocates, or uses anything global, so calls on different buffers may run in different threads.
 
-   The library is for x86-64 Linux (System V calls). Link libregister_box.a; it needs memcpy and memset of the C library. */
+   The library is for Linux on x86-64 processors of level v2 or later (System V calls). Link libregister_box.a; it needs memcpy, memmove and
+   memset of the C library. */
 #ifndef REGISTER_BOX_H
 #define REGISTER_BOX_H
 

@@ -2,7 +2,7 @@
 use Prim.Native.Nat.{ℕ, zero, suc, ◌≤◌, ◌<◌}
 use native.Mathlib.Omega.{arith}
 use mathlib.Core.Path.{◌≡◌, refl}
-use mathlib.Core.Bool.{Bool, true, false, not}
+use mathlib.Core.Bool.{Bool, true, false, not, true≢false, false≢true}
 use lib.Dec.{ltb, leb, eqb}
 use borrow.Author.Tests.{ltb-true, ltb-false, leb-true, leb-false, eqb-true, eqb-false}
 use Rattle.meaning.specs.Says.{Says, aye, nay}
@@ -27,6 +27,15 @@ says_eq a b = says_by (eqb a b) (eqb-true a b) (eqb-false a b)
 
 pub says_ne : (a b : ℕ) → Says (a ≡ b → ⊥) (not (eqb a b))
 says_ne a b = says_not (says_eq a b)
+
+-- of a negated test
+pub says_yes : {A : Type 0} {b : Bool} → Says A b → not b ≡ false → A
+says_yes (aye a) e = a
+says_yes (nay r) e = absurd (true≢false e)
+
+pub says_no : {A : Type 0} {b : Bool} → Says A b → not b ≡ true → A → ⊥
+says_no (aye a) e = absurd (false≢true e)
+says_no (nay r) e = r
 
 pub says_every : (P : ℕ → Type 0) (p : ℕ → Bool) (n : ℕ) → ((i : ℕ) → i < n → Says (P i) (p i)) → Says ((i : ℕ) → i < n → P i) (every p n)
 unfolding every

@@ -10,6 +10,7 @@ use Rattle.bits.specs.Fields.{field_at, bits_at}
 use Rattle.bits.proofs.Laws.{field_lt, field_next, bit_lt}
 use Rattle.bits.proofs.Cursor.take.Goals as goal
 
+-- before a turn there is room for one bit more
 small : (s : List ℕ) (at i v : ℕ) → at + i ≤ 8 * length s → i < 32 → v ≡ field_at s at i → v < 2 ^ 31
 small s at i v h l e = rw e (lt_of_lt_of_le (field_lt s at i h) (pow_mono {j = 31} (omega arith)))
 

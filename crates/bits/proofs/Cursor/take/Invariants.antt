@@ -1,5 +1,4 @@
 -- `bits::Cursor::take` meets its contract. The invariant: `value` is the number of the first i bits of the field.
--- before a turn there is room for one bit more
 use Prim.Native.Nat.{◌-◌, ◌≤◌}
 use mathlib.Core.Path.{◌≡◌}
 use Rattle.bits.specs.Fields.{field_at}
