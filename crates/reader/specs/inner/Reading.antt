@@ -1,6 +1,7 @@
 -- What the functions of the reader promise each other: a form is read soundly (what is read is a tree of the form) and completely
 -- (a tree that stands there, followed by what may follow it, is read).
-use Rattle.std.specs.Prelude.{ℕ, suc, ◌+◌, ◌*◌, ◌%◌, ◌≤◌, max, ◌≡◌, Bool, true, false, cond, ◌&&◌, ◌≢◌, List, [], ◌∷◌, ◌++◌, length, get_or, drop, set, ltb, eqb}
+use Rattle.std.specs.Prelude.{ℕ, suc, ◌+◌, ◌*◌, ◌%◌, ◌≤◌, max, ◌≡◌}
+use Rattle.std.specs.Prelude.{Bool, true, false, cond, ◌&&◌, ◌≢◌, List, [], ◌∷◌, ◌++◌, length, get_or, drop, set, ltb, eqb}
 use Rattle.meaning.specs.Refused.{Granted}
 use Rattle.meaning.specs.Bytes.{Bytes}
 use Rattle.meaning.specs.Question.{Question, Conj, OneUnit, Begin, Steps, Rest, Quoted, is_name_byte, is_quotable, write_quoted}

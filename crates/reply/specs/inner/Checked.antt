@@ -51,6 +51,7 @@ pub record Checked (w : ℕ) (s : Bytes) : Type 0 where
   pub ins_good : (i : ℕ) → i < ins_of s → InGood s (fragment_of s) i
   pub steps_good : (i : ℕ) → i < steps_of s → StepGood w s (vars_of s) i (ins_to (ins_of s) + step_width w * i)
   pub v_good : (e : ℕ) → e < entries_of s → RefGood w s (vars_of s) (steps_of s) (steps_to w (ins_of s) (steps_of s) + ref_width w * e)
-  pub d_good : (e : ℕ) → e < entries_of s → RefGood w s (vars_of s) (steps_of s) (v_to w (ins_of s) (steps_of s) (entries_of s) + ref_width w * e)
+  pub d_good : (e : ℕ) → e < entries_of s
+      → RefGood w s (vars_of s) (steps_of s) (v_to w (ins_of s) (steps_of s) (entries_of s) + ref_width w * e)
   pub filled : BitsStand s (end_of w (ins_of s) (steps_of s) (entries_of s)) (8 * length s)
       (replicate (8 * length s - end_of w (ins_of s) (steps_of s) (entries_of s)) false)
