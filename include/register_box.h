@@ -52,7 +52,7 @@ extern "C" {
     ((60 + 5 * (size_t)(stand_ins) + 30 * (size_t)(steps) + 28 * (size_t)(entries) + 7) / 8)
 
 /* Bytes of stack to allow for below the caller: question_read goes deep with the text, whether it is a question or not; the others do not. */
-#define REGISTER_BOX_STACK_READ 655360
+#define REGISTER_BOX_STACK_READ 131072
 #define REGISTER_BOX_STACK 65536
 
 /* ---- Refusals ---- */

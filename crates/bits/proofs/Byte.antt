@@ -1,17 +1,23 @@
 -- The bits of bytes, and a run of bits within one byte, as the code reads and writes it: one law for every run.
 use mathlib.Core.Path.{◌≡◌, refl, sym, ap, ap₂, ◌∙◌}
-use Prim.Native.Nat.{ℕ, suc, ◌+◌, ◌-◌, ◌*◌, ◌/◌, ◌%◌, ◌^◌, ◌≤◌, ◌<◌}
-use native.Mathlib.Nat.{div-add-mod, le_refl, suc_inj, add_comm, add-mul, mul_assoc, mul-zero, mul-suc, mod-lt, mod-eq_of_lt}
+use Prim.Native.Nat.{ℕ, zero, suc, ◌+◌, ◌-◌, ◌*◌, ◌/◌, ◌%◌, ◌^◌, ◌<◌}
+use native.Mathlib.Nat.{div-add-mod, le_refl, suc_inj, add_comm, add-mul, mul-zero, mul-suc, mod-lt, zero-mul, one-mul}
 use native.Mathlib.Omega.{arith}
-use mathlib.Core.Bool.{Bool}
+use mathlib.Core.Bool.{Bool, true, false, not}
 use mathlib.Core.List.{List, [], ◌∷◌, ◌++◌, append_assoc}
 use lib.ListN.{length, take, drop, get_or, set, length-append, length-set}
 use lib.Seq.{take-set-le, drop-set-lt, get_or-set_same, lt-length-set, take_at, drop_at, split_at, length-take-le}
-use lib.Pow.{shr_lt, pow_pos, pow-add, shr-shr, split, high, low}
-use lib.Arith.{digits_lt}
-use Rattle.bits.specs.Bits.{digits, number}
-use Rattle.bits.specs.Fields.{fields, bits_of, bits_at, field_at, Wrote}
-use Rattle.bits.proofs.Digits.{digits_length, number_digits_mod, number_digits, digits_add, digits_low, digits_same}
+use lib.Pow.{pow_pos, shr-shr, split, high, low}
+use Rattle.std.specs.Int.{bit_at}
+use Rattle.std.specs.Int.Bits.{bit_or, or_add_and}
+use lib.Bits.{bit_and}
+use lib.Dec.{eqb}
+use Rattle.std.proofs.lemmas.Nat.{and_comm, and-not}
+use Rattle.std.proofs.lemmas.Nat.Bits.{and_pow}
+use Rattle.std.proofs.lemmas.Bool.{ne_eqb}
+use Rattle.bits.specs.Bits.{bit, digits, number}
+use Rattle.bits.specs.Fields.{fields, bits_of, bits_at, Wrote}
+use Rattle.bits.proofs.Digits.{digits_length, digits_one, number_digits, digits_add, digits_low, digits_same}
 
 -- where two joined lists are equal and their first parts as long, the parts are equal
 pub append_front : (x y xs ys : List Bool) → length x ≡ length xs → x ++ y ≡ xs ++ ys → x ≡ xs
@@ -130,54 +136,50 @@ wrote_in_byte s k a n z c e h l =
     wrote_by s t (front s k a n z) (digits n (x / 2 ^ z)) (digits n c) (back s k a n z) (8 * k + a) (8 * k + a + n) (byte_split s k a n z e h) bt
     (front_length s k a n z h) (digits_length n (x / 2 ^ z) ∙ sym (digits_length n c)) (rw digits_length refl) (length-set s k y)
 
--- ---- as the code has it
+-- ---- as the code has it: one bit, by its mask
 
-pub field_in_byte : (s : List ℕ) (at n z : ℕ) → at % 8 + (n + z) ≡ 8 → at < 8 * length s
-    → get_or s (at / 8) 0 / 2 ^ z % 2 ^ n ≡ field_at s at n
-unfolding field_at
-field_in_byte s at n z e h =
-    sym (number_digits_mod n (get_or s (at / 8) 0 / 2 ^ z))
-    ∙ ap number (sym (bits_in_byte s (at / 8) (at % 8) n z e (omega arith)))
-    ∙ ap (λ (p : ℕ). number (bits_at s p n)) (div-add-mod at 8)
+tested : (r m : ℕ) → r < 2 → 0 < m → eqb r 1 ≡ not (eqb (r * m) 0)
+tested zero m h l = rw zero-mul refl
+tested (suc zero) m h l = rw (one-mul, ne_eqb m 0 (λ e. omega arith)) refl
+tested (suc (suc r)) m h l = absurd (omega arith)
 
-module _ (x n z c : ℕ) where
-  -- what stands above the n bits, as a part of x
+pub bit_in_byte : (s : List ℕ) (at m : ℕ) → at < 8 * length s → m ≡ 2 ^ (7 - at % 8)
+    → bits_at s at 1 ≡ not (eqb (bit_and (get_or s (at / 8) 0) m) 0) ∷ []
+unfolding bit
+bit_in_byte s at m h e =
+    let x = get_or s (at / 8) 0 in
+    let z = 7 - at % 8 in
+    let here : bits_at s at 1 ≡ digits 1 (x / 2 ^ z) = rw div-add-mod at (bits_in_byte s (at / 8) (at % 8) 1 z (omega arith) (omega arith)) in
+    here ∙ digits_one (x / 2 ^ z) ∙ rw (e, and_pow x z) (ap (λ b. b ∷ []) (tested (bit_at x z) (2 ^ z) (omega arith) (pow_pos z)))
+
+module _ (x z c : ℕ) where
+  -- what stands above the bit, as a part of x
   above : ℕ
-  above = x / 2 ^ (n + z) * 2 ^ n * 2 ^ z
+  above = x / 2 ^ (1 + z) * 2 * 2 ^ z
 
-  whole : x ≡ above + x / 2 ^ z % 2 ^ n * 2 ^ z + x % 2 ^ z
+  whole : x ≡ above + x / 2 ^ z % 2 * 2 ^ z + x % 2 ^ z
   unfolding above
   whole =
-      rw (add_comm n z, ← shr-shr x z n, ← add-mul (x / 2 ^ z / 2 ^ n * 2 ^ n) (x / 2 ^ z % 2 ^ n) (2 ^ z), split (x / 2 ^ z) n, split x z) refl
+      rw (add_comm 1 z, ← shr-shr x z 1, ← add-mul (x / 2 ^ z / 2 * 2) (x / 2 ^ z % 2) (2 ^ z), split (x / 2 ^ z) 1, split x z) refl
 
-  patch : patched x n z c ≡ above + c * 2 ^ z + x % 2 ^ z
+  patch : patched x 1 z c ≡ above + c * 2 ^ z + x % 2 ^ z
   unfolding patched above
-  patch = rw (add-mul (x / 2 ^ (n + z) * 2 ^ n) c (2 ^ z)) refl
+  patch = rw (add-mul (x / 2 ^ (1 + z) * 2) c (2 ^ z)) refl
 
-  pub old_le : x / 2 ^ z % 2 ^ n * 2 ^ z ≤ x
-  old_le = omega (arith, whole)
+or_mask : (x z : ℕ) → bit_or x (2 ^ z) ≡ patched x 1 z 1
+or_mask x z = omega (arith, or_add_and x (2 ^ z), and_pow x z, whole x z 1, patch x z 1)
 
-  module _ (a : ℕ) (e : a + (n + z) ≡ 8) (hx : x < 256) (hc : c < 2 ^ n) where
-    patched_lt : patched x n z c < 256
-    unfolding patched
-    patched_lt =
-        let q : x / 2 ^ (n + z) < 2 ^ a = shr_lt a (n + z) (rw e hx) in
-        let r : patched x n z c < 2 ^ a * 2 ^ n * 2 ^ z = digits_lt (digits_lt q hc) (mod-lt x (pow_pos z)) in
-        let p : 2 ^ a * 2 ^ n * 2 ^ z ≡ 256 = mul_assoc (2 ^ a) (2 ^ n) (2 ^ z) ∙ rw (← pow-add 2 n z, ← pow-add 2 a (n + z), e) refl in
-        rw p at r
+and_mask : (x z : ℕ) → x < 256 → 2 ^ z < 256 → bit_and x (255 - 2 ^ z) ≡ patched x 1 z 0
+and_mask x z h l = omega (arith, and-not 8 (2 ^ z) x l h, and_comm (2 ^ z) x, and_comm (255 - 2 ^ z) x, and_pow x z, whole x z 0, patch x z 0)
 
-    patch_code : x - (x / 2 ^ z % 2 ^ n * 2 ^ z) % 256 + (c * 2 ^ z) % 256 ≡ patched x n z c
-    patch_code =
-        rw (mod-eq_of_lt {n = x / 2 ^ z % 2 ^ n * 2 ^ z} {m = 256} (omega (arith, old_le)), mod-eq_of_lt {n = c * 2 ^ z} {m = 256} (omega (arith, patch, patched_lt)))
-        (omega (arith, whole, patch))
+module _ (s : List ℕ) (at m : ℕ) (h : at < 8 * length s) (e : m ≡ 2 ^ (7 - at % 8)) where
+  bit_written : (c y : ℕ) → c < 2 → y ≡ patched (get_or s (at / 8) 0) 1 (7 - at % 8) c → Wrote s (set s (at / 8) y) at (at + 1) (digits 1 c)
+  bit_written c y l d = rw d (rw div-add-mod at (wrote_in_byte s (at / 8) (at % 8) 1 (7 - at % 8) c (omega arith) (omega arith) l))
 
-    -- what the code makes of the byte x, taking o away and putting c in its place
-    pub code_fits : (o : ℕ) → o ≡ x / 2 ^ z % 2 ^ n → x - (o * 2 ^ z) % 256 + (c * 2 ^ z) % 256 < 256
-    code_fits o eo = rw (eo, patch_code) patched_lt
+  pub set_in_byte : Wrote s (set s (at / 8) (bit_or (get_or s (at / 8) 0) m)) at (at + 1) (true ∷ [])
+  unfolding bit
+  set_in_byte = rw digits_one at (bit_written 1 (bit_or (get_or s (at / 8) 0) m) (omega arith) (rw e (or_mask _ _)))
 
-pub wrote_at : (s : List ℕ) (at n z c o d : ℕ) → at % 8 + (n + z) ≡ 8 → at < 8 * length s → get_or s (at / 8) 0 < 256 → c < 2 ^ n
-    → o ≡ get_or s (at / 8) 0 / 2 ^ z % 2 ^ n → d ≡ c
-    → Wrote s (set s (at / 8) (get_or s (at / 8) 0 - (o * 2 ^ z) % 256 + (d * 2 ^ z) % 256)) at (at + n) (digits n c)
-wrote_at s at n z c o d e h hx l eo ed =
-    rw (eo, ed, patch_code (get_or s (at / 8) 0) n z c (at % 8) e hx l)
-    (rw (div-add-mod at 8) at (wrote_in_byte s (at / 8) (at % 8) n z c e (omega arith) l))
+  pub clear_in_byte : get_or s (at / 8) 0 < 256 → m < 256 → Wrote s (set s (at / 8) (bit_and (get_or s (at / 8) 0) (255 - m))) at (at + 1) (false ∷ [])
+  unfolding bit
+  clear_in_byte x l = rw digits_one at (bit_written 0 (bit_and (get_or s (at / 8) 0) (255 - m)) (omega arith) (rw e (and_mask _ _ x (rw e at l))))

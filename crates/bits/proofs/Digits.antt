@@ -1,7 +1,7 @@
 -- A number and its bits, most significant first: there and back at every width.
 use mathlib.Core.Path.{◌≡◌, refl, sym, ap, ap₂, ◌∙◌}
-use Prim.Native.Nat.{ℕ, zero, suc, ◌+◌, ◌-◌, ◌*◌, ◌/◌, ◌%◌, ◌^◌, ◌≤◌, ◌<◌}
-use native.Mathlib.Nat.{zero-add, suc-add, add_comm, add-mul, mul_assoc, zero-div, mul_comm, pow-suc, mod-one, mod-eq_of_lt, mod-mod, mul-add-mod_self_right, mul-add-div_right}
+use Prim.Native.Nat.{ℕ, zero, suc, ◌+◌, ◌-◌, ◌*◌, ◌/◌, ◌%◌, ◌^◌, ◌<◌}
+use native.Mathlib.Nat.{zero-add, suc-add, add_comm, add-mul, mul_assoc, zero-div, div-one, mul_comm, pow-suc, mod-one, mod-eq_of_lt, mul-add-mod_self_right, mul-add-div_right}
 use native.Mathlib.Numerals.{one-add}
 use native.Mathlib.Omega.{arith}
 use mathlib.Core.Bool.{Bool, true, false}
@@ -44,6 +44,14 @@ pub digits_length : (w v : ℕ) → length (digits w v) ≡ w
 unfolding digits
 digits_length zero v = refl
 digits_length (suc w) v = ap suc (digits_length w v)
+
+pub number_one : (b : Bool) → number (b ∷ []) ≡ worth b
+unfolding number
+number_one b = omega arith
+
+pub digits_one : (v : ℕ) → digits 1 v ≡ bit v ∷ []
+unfolding digits
+digits_one v = rw (div-one v) refl
 
 pub number_lt : (bs : List Bool) → number bs < 2 ^ length bs
 unfolding number
@@ -101,18 +109,18 @@ digits_same w a b e =
     ∙ ap (digits w) e
     ∙ sym (ap (digits w) (sym (split b w)) ∙ digits_low w (b / 2 ^ w) (b % 2 ^ w))
 
--- the i + n highest of w bits are the i highest, and n more
-pub digits_more : (w i n v : ℕ) → i + n ≤ w → digits (i + n) (v / 2 ^ (w - (i + n))) ≡ digits i (v / 2 ^ (w - i)) ++ digits n (v / 2 ^ (w - (i + n)) % 2 ^ n)
-digits_more w i n v h =
-    let u = v / 2 ^ (w - (i + n)) in
-    let e : w - (i + n) + n ≡ w - i = omega arith in
-    digits_add i n u ∙ ap₂ ◌++◌ (ap (digits i) (rw (shr-shr v (w - (i + n)) n, e) refl)) (digits_same n u (u % 2 ^ n) (sym (mod-mod u (2 ^ n))))
+-- the i + 1 highest of w bits are the i highest, and one more
+pub digits_next : (w i v : ℕ) → i < w → digits (i + 1) (v / 2 ^ (w - (i + 1))) ≡ digits i (v / 2 ^ (w - i)) ++ (bit (v / 2 ^ (w - (i + 1))) ∷ [])
+digits_next w i v h =
+    let u = v / 2 ^ (w - (i + 1)) in
+    let e : w - (i + 1) + 1 ≡ w - i = omega arith in
+    digits_add i 1 u ∙ ap₂ ◌++◌ (ap (digits i) (rw (shr-shr v (w - (i + 1)) 1, e) refl)) (digits_one u)
+
+-- n zeros and m zeros more
+pub zeros_more : (n m : ℕ) → replicate (n + m) false ≡ replicate n false ++ replicate m false
+zeros_more n m = sym (replicate-append-replicate n m false)
 
 pub digits_zero : (w : ℕ) → digits w 0 ≡ replicate w false
 unfolding digits bit
 digits_zero zero = refl
 digits_zero (suc w) = rw (zero-div (2 ^ w), digits_zero w) refl
-
--- n zeros and m zeros more
-pub zeros_more : (n m : ℕ) → replicate (n + m) false ≡ replicate n false ++ digits m 0
-zeros_more n m = rw (digits_zero m, replicate-append-replicate n m false) refl

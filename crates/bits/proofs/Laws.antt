@@ -1,18 +1,18 @@
 -- How writes and reads of runs of bits compose; thousands of fields go by these laws alone.
 use mathlib.Core.Path.{◌≡◌, refl, sym, ap, ◌∙◌}
-use Prim.Native.Nat.{ℕ, ◌+◌, ◌-◌, ◌*◌, ◌/◌, ◌%◌, ◌^◌, ◌≤◌, ◌<◌}
-use native.Mathlib.Nat.{add_assoc, mul-suc, mul-le-mul_left}
+use Prim.Native.Nat.{ℕ, zero, suc, ◌+◌, ◌-◌, ◌*◌, ◌/◌, ◌^◌, ◌≤◌, ◌<◌}
+use native.Mathlib.Nat.{add_assoc, add-zero, add-suc, mul-suc, mul-le-mul_left}
+use native.Mathlib.Numerals.{add-one}
 use native.Mathlib.Omega.{arith}
 use mathlib.Core.Bool.{Bool, false}
-use mathlib.Core.List.{List, [], ◌++◌, append_assoc}
+use mathlib.Core.List.{List, [], ◌∷◌, ◌++◌, append_assoc}
 use lib.ListN.{length, take, drop, replicate, length-replicate, length-append, length-take, length-drop, take-append-drop}
 use lib.Seq.{take-length, take_all, take_at, drop_at, length-take-le, drop-drop, take-add}
-use lib.Pow.{pow_pos}
-use Rattle.bits.specs.Bits.{digits, number}
+use Rattle.bits.specs.Bits.{bit, worth, digits, number}
 use Rattle.bits.specs.Fields.{bits_of, bits_at, field_at, Wrote}
 use Rattle.bits.specs.inner.Stand.{BitsStand}
 use Rattle.bits.specs.Promise.{TakePut}
-use Rattle.bits.proofs.Digits.{digits_length, number_lt, number_append, number_digits, digits_number_at, digits_more, zeros_more}
+use Rattle.bits.proofs.Digits.{digits_length, number_lt, number_append, number_digits, digits_number_at, digits_next, number_one, zeros_more}
 use Rattle.bits.proofs.Byte.{append_front, append_back, bits_of_length}
 
 -- ---- how writes compose
@@ -54,9 +54,9 @@ wrote_append {s} {t} {u} {a} {b} {c} {xs} {ys} p q =
 
 -- one bit more of the w bits of v is written; k is how far the code shifts v for it
 pub put_more : {s t u : List ℕ} (at i w v k : ℕ) → i < w → Wrote s t at (at + i) (digits i (v / 2 ^ (w - i)))
-    → Wrote t u (at + i) (at + i + 1) (digits 1 (v / 2 ^ k % 2)) → k ≡ w - (i + 1)
+    → Wrote t u (at + i) (at + i + 1) (bit (v / 2 ^ k) ∷ []) → k ≡ w - (i + 1)
     → Wrote s u at (at + (i + 1)) (digits (i + 1) (v / 2 ^ (w - (i + 1))))
-put_more at i w v k h p q e = rw (← add_assoc at i 1, digits_more w i 1 v (omega arith)) (wrote_append p (rw e at q))
+put_more at i w v k h p q e = rw (← add_assoc at i 1, digits_next w i v h) (wrote_append p (rw e at q))
 
 -- ---- reading
 
@@ -83,12 +83,10 @@ unfolding field_at
 field_more s at i n h = rw (bits_at_add s at i n, number_append (bits_at s at i) (bits_at s (at + i) n), bits_at_length s (at + i) n (omega arith)) refl
 
 -- as the code has it: p is the place of the next bit b
-pub field_next : (s : List ℕ) (at i p v b : ℕ) → at + (i + 1) ≤ 8 * length s → v ≡ field_at s at i → b ≡ field_at s p 1 → p ≡ at + i
-    → v * 2 + b ≡ field_at s at (i + 1)
-field_next s at i p v b h ev eb ep = rw (ev, eb, ep) (sym (field_more s at i 1 h))
-
-pub bit_lt : (s : List ℕ) (p b : ℕ) → b ≡ field_at s p 1 → p + 1 ≤ 8 * length s → b < 2
-bit_lt s p b e h = rw e (field_lt s p 1 h)
+pub field_next : (s : List ℕ) (at i p v : ℕ) (b : Bool) → at + (i + 1) ≤ 8 * length s → v ≡ field_at s at i → bits_at s p 1 ≡ b ∷ [] → p ≡ at + i
+    → v * 2 + worth b ≡ field_at s at (i + 1)
+unfolding field_at
+field_next s at i p v b h ev eb ep = rw (ev, ← number_one, ← eb, ep) (sym (field_more s at i 1 h))
 
 -- a field that was read stands there, and what stands there is what is read
 pub field_stand : (s : List ℕ) (at w : ℕ) → at + w ≤ 8 * length s → BitsStand s at (at + w) (digits w (field_at s at w))
@@ -151,11 +149,18 @@ take_put s t at next w v h p = stand_field w v h (wrote_stand p)
 pub one_more : (w i n : ℕ) → i < n → w * i + w ≤ w * n
 one_more w i n h = rw (← mul-suc w i) (mul-le-mul_left w h)
 
--- each bit of a run of zeros is 0
-pub blank_bit : {s : List ℕ} {at next : ℕ} (n k : ℕ) → k < n → BitsStand s at next (replicate n false) → field_at s (at + k) 1 ≡ 0
+-- ---- a run of zeros: each bit is 0, and where each is, the run stands
+
+pub blank_bit : {s : List ℕ} {at next : ℕ} (n k : ℕ) → k < n → BitsStand s at next (replicate n false) → bits_at s (at + k) 1 ≡ false ∷ []
 blank_bit {s} {at} {next} n k h p =
     let e : n ≡ k + 1 + (n - (k + 1)) = omega arith in
-    let q : BitsStand s at next ((replicate k false ++ digits 1 0) ++ digits (n - (k + 1)) 0) =
+    let q : BitsStand s at next ((replicate k false ++ (false ∷ [])) ++ replicate (n - (k + 1)) false) =
     rw (e, zeros_more (k + 1) (n - (k + 1)), zeros_more k 1) at p in
-    let q' = stand_split (at + k + 1) (replicate k false ++ digits 1 0) (digits (n - (k + 1)) 0) (simp (length-append, length-replicate, digits_length) (omega arith)) q in
-    stand_field 1 0 (pow_pos 1) (stand_split (at + k) (replicate k false) (digits 1 0) (rw length-replicate refl) q'.0).1
+    let q' = stand_split (at + k + 1) (replicate k false ++ (false ∷ [])) (replicate (n - (k + 1)) false) (simp (length-append, length-replicate) (omega arith)) q in
+    (stand_split (at + k) (replicate k false) (false ∷ []) (rw length-replicate refl) q'.0).1.there
+
+pub bits_blank : (s : List ℕ) (at n : ℕ) → at + n ≤ 8 * length s → ((k : ℕ) → k < n → bits_at s (at + k) 1 ≡ false ∷ []) → BitsStand s at (at + n) (replicate n false)
+bits_blank s at zero h f = rw add-zero (stand_none s at (omega arith))
+bits_blank s at (suc n) h f =
+    let e : replicate n false ++ (false ∷ []) ≡ replicate (suc n) false = sym (zeros_more n 1) ∙ ap (λ m. replicate m false) (add-one n) in
+    rw (← e, add-suc) (stand_append (bits_blank s at n (omega arith) (λ k l. f k (omega arith))) (record { end = omega arith; room = omega arith; there = f n (omega arith) }))

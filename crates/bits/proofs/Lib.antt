@@ -3,3 +3,4 @@ pub mod Digits
 pub mod Byte
 pub mod Laws
 pub mod Packed
+mod Blank

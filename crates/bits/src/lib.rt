@@ -2,9 +2,9 @@
 // one list, `take` reads a run of it as a number, and `put` writes a number as a run of it and changes no other bit.
 #![tactic(auto)]
 
-ghost use Rattle.std.specs.Prelude.{◌≡◌, ◌+◌, ◌-◌, ◌*◌, ◌^◌, ◌≤◌, ◌<◌, true, false, length, replicate};
+ghost use Rattle.std.specs.Prelude.{◌≡◌, ◌+◌, ◌-◌, ◌*◌, ◌%◌, ◌^◌, ◌≤◌, ◌<◌, true, false, [], ◌∷◌, length, replicate};
 ghost use Rattle.bits.specs.Bits.{digits};
-ghost use Rattle.bits.specs.Fields.{field_at, Wrote};
+ghost use Rattle.bits.specs.Fields.{bits_at, field_at, Wrote};
 ghost use Rattle.bits.specs.inner.Stand.{BitsStand};
 
 // A place in a run of bits.
@@ -20,45 +20,54 @@ pub struct Field {
     pub next: Cursor,
 }
 
-// The bit at `at`.
-fn bit(s: &[u8], at: usize) -> u8
-    requires { at < 8 * length s.now }
-    ensures { result ≡ field_at s.now at 1 }
+// The place of bit `at` in its byte.
+fn mask(at: usize) -> u8
+    ensures { result ≡ 2 ^ (7 - at % 8) }
 {
-    let k = at / 8;
-    let z = 7 - at % 8;
-    (s[k] >> z) % 2
+    1 << (7 - at % 8)
+}
+
+// The bit at `at`.
+fn bit(s: &[u8], at: usize) -> bool
+    requires { at < 8 * length s.now }
+    ensures { bits_at s.now at 1 ≡ result ∷ [] }
+{
+    s[at / 8] & mask(at) != 0
 }
 
 // Sets the bit at `at` to b.
-fn set_bit(buf: &mut [u8], at: usize, b: u8)
-    requires { (at < 8 * length buf.old) × (b < 2) }
-    ensures { Wrote buf.old buf.new at (at + 1) (digits 1 b) }
+fn set_bit(buf: &mut [u8], at: usize, b: bool)
+    requires { at < 8 * length buf.old }
+    ensures { Wrote buf.old buf.new at (at + 1) (b ∷ []) }
 {
-    let k = at / 8;
-    let z = 7 - at % 8;
-    let x = buf[k];
-    let old = (x >> z) % 2;
-    buf[k] = x - (old << z) + (b << z);
+    if b {
+        buf[at / 8] |= mask(at);
+    } else {
+        buf[at / 8] &= !mask(at);
+    }
 }
 
 impl Cursor {
+    // The place `width` bits further on.
+    fn after(self, width: usize) -> Cursor
+        requires { self.at + width < 2 ^ 64 }
+        ensures { result.at ≡ self.at + width }
+    {
+        let at = self.at + width;
+        Cursor { at }
+    }
+
     // The field of `width` bits from here on.
     pub fn take(self, s: &[u8], width: usize) -> Field
         requires { (self.at + width ≤ 8 * length s.now) × (self.at + width < 2 ^ 64) × (width ≤ 32) }
         ensures { (result.value ≡ field_at s.now self.at width) × (result.next.at ≡ self.at + width) }
     {
-        let at = self.at;
         let mut value: u32 = 0;
-        let mut i = 0;
-        while i < width {
-            value = value * 2 + bit(s, at + i) as u32;
-            i += 1;
+        for i in 0..width {
+            value = value * 2 + u32::from(bit(s, self.at + i));
         }
-        Field {
-            value,
-            next: Cursor { at: at + width },
-        }
+        let next = self.after(width);
+        Field { value, next }
     }
 
     // Writes `value` as a field of `width` bits from here on.
@@ -66,14 +75,11 @@ impl Cursor {
         requires { (self.at + width ≤ 8 * length buf.old) × (self.at + width < 2 ^ 64) × (width ≤ 32) × (value < 2 ^ width) }
         ensures { Wrote buf.old buf.new self.at result.at (digits width value) × (result.at ≡ self.at + width) }
     {
-        let at = self.at;
-        let mut i = 0;
-        while i < width {
-            let b = (value >> (width - 1 - i)) % 2;
-            set_bit(buf, at + i, b as u8);
-            i += 1;
+        for i in 0..width {
+            let b = (value >> (width - 1 - i)) % 2 == 1;
+            set_bit(buf, self.at + i, b);
         }
-        Cursor { at: at + width }
+        self.after(width)
     }
 
     // Writes 0 in every bit from here up to bit `to`.
@@ -81,12 +87,10 @@ impl Cursor {
         requires { (self.at ≤ to) × (to ≤ 8 * length buf.old) }
         ensures { Wrote buf.old buf.new self.at to (replicate (to - self.at) false) × (result.at ≡ to) }
     {
-        let mut at = self.at;
-        while at < to {
-            set_bit(buf, at, 0);
-            at += 1;
+        for at in self.at..to {
+            set_bit(buf, at, false);
         }
-        Cursor { at }
+        Cursor { at: to }
     }
 
     // Whether every bit from here up to bit `to` is 0.
@@ -95,13 +99,6 @@ impl Cursor {
         ensures bits_stand { result ≡ true → BitsStand s.now self.at to (replicate (to - self.at) false) }
         ensures value { BitsStand s.now self.at to (replicate (to - self.at) false) → result ≡ true }
     {
-        let mut at = self.at;
-        while at < to {
-            if bit(s, at) != 0 {
-                return false;
-            }
-            at += 1;
-        }
-        true
+        !(self.at..to).any(|at| bit(s, at))
     }
 }

@@ -18,8 +18,12 @@ use Rattle.question.specs.Listed.{Place, Inside, entry_of, placed, EntryRule, Ke
 use Rattle.reply.specs.Write.{write}
 use Rattle.meaning.specs.Refused.{Unless, refused, passed, Granted, granted}
 use Rattle.meaning.proofs.Refused.{One, one_granted, one_unless, beyond}
+use Rattle.std.specs.Prelude.{Result, Ok, Err}
+use Rattle.depot.specs.declared.Refusal as R
+use Rattle.depot.specs.declared.Refusal.TheVariants.{BadList, BadFragment, ShortWork, TooManySteps, ShortReply}
+use Rattle.depot.specs.Number.{number_of, refusal_number, size_of}
 use Rattle.depot.specs.Answer.{Call, call, laid, bytes, Late, Refusal, Answered, memory_after, buffer_after}
-use Rattle.depot.specs.Promise.{OneAnswer, OnlyEight, NeverEight, LaidWellFormed, Agree, UnusedIgnored}
+use Rattle.depot.specs.Promise.{OneAnswer, OneResult, OnlyEight, NeverEight, LaidWellFormed, Agree, UnusedIgnored}
 use Rattle.writing.proofs.Laid.{laid_formed}
 use Rattle.question.proofs.Listed.{listed_length, keeps_earlier}
 
@@ -35,6 +39,35 @@ one_answer c work out r size w o r' size' w' o' a b =
       a.memory ∙ ap (λ r. memory_after r work) e ∙ sym b.memory,
       a.buffer ∙ ap (λ r. buffer_after c r out) e ∙ sym b.buffer,
     )
+
+-- ONE RESULT: a refusal is known by its number
+refusal_at : ℕ → R.Refusal
+refusal_at n = cond (eqb n 5) BadList (cond (eqb n 6) BadFragment (cond (eqb n 7) ShortWork (cond (eqb n 8) TooManySteps ShortReply)))
+
+at_number : (r : R.Refusal) → refusal_at (number_of r) ≡ r
+unfolding refusal_at
+at_number BadList = refl
+at_number BadFragment = refl
+at_number ShortWork = refl
+at_number TooManySteps = refl
+at_number ShortReply = refl
+
+some_number : (r : R.Refusal) → 0 < number_of r
+some_number BadList = omega arith
+some_number BadFragment = omega arith
+some_number ShortWork = omega arith
+some_number TooManySteps = omega arith
+some_number ShortReply = omega arith
+
+result_is : (r r' : Result ℕ R.Refusal) → refusal_number r ≡ refusal_number r' → size_of r ≡ size_of r' → r ≡ r'
+result_is (Ok n) (Ok n') e q = ap Ok q
+result_is (Ok n) (Err x') e q = absurd (omega (arith, some_number x'))
+result_is (Err x) (Ok n') e q = absurd (omega (arith, some_number x))
+result_is (Err x) (Err x') e q = ap Err (sym (at_number x) ∙ ap refusal_at e ∙ at_number x')
+
+pub one_result : OneResult
+one_result c work out r w o r' w' o' a b =
+    let s = one_answer c work out (refusal_number r) (size_of r) w o (refusal_number r') (size_of r') w' o' a b in (result_is r r' s.0 s.1, s.2, s.3)
 
 -- ONLY EIGHT
 unless_map : {n : ℕ} {A B : Type 0} {P Q : ℕ → Type 0} {r : ℕ} → (A → B) → (B → A) → (P r → Q r) → Unless A n P r → Unless B n Q r

@@ -1,10 +1,12 @@
 -- WHAT IS PROVED of a depot's answers: each promise is a type, and proofs/ has an element under its name (`one_answer` of `OneAnswer`).
-use Rattle.std.specs.Prelude.{ℕ, ◌+◌, ◌*◌, ◌^◌, ◌<◌, ◌≤◌, ◌≡◌, ◌⊎◌, List, length, get_or}
+use Rattle.std.specs.Prelude.{ℕ, ◌+◌, ◌*◌, ◌^◌, ◌<◌, ◌≤◌, ◌≡◌, ◌⊎◌, List, length, get_or, Result}
 use Rattle.meaning.specs.Bytes.{Bytes}
 use Rattle.meaning.specs.Fragment.{Fragment, Sound, row_count, NoStandIn}
 use Rattle.question.specs.declared.List as L
 use Rattle.question.specs.Listed.{placed, Keeps}
 use Rattle.reply.specs.WellFormed.{WellFormed}
+use Rattle.depot.specs.declared.Refusal.{Refusal}
+use Rattle.depot.specs.Number.{refusal_number, size_of}
 use Rattle.depot.specs.Answer.{Call, call, laid, bytes, Answered}
 
 -- any two answers to a call, with what they leave, are the same
@@ -14,6 +16,12 @@ Same r size work out r' size' work' out' = (r ≡ r') × (size ≡ size') × (wo
 abbrev pub OneAnswer : Type 0
 OneAnswer = (c : Call) (work out : List ℕ) (r size : ℕ) (w o : List ℕ) (r' size' : ℕ) (w' o' : List ℕ)
     → Answered c work out r size w o → Answered c work out r' size' w' o' → Same r size w o r' size' w' o'
+
+-- the same of the result that the code hands out
+abbrev pub OneResult : Type 0
+OneResult = (c : Call) (work out : List ℕ) (r : Result ℕ Refusal) (w o : List ℕ) (r' : Result ℕ Refusal) (w' o' : List ℕ)
+    → Answered c work out (refusal_number r) (size_of r) w o → Answered c work out (refusal_number r') (size_of r') w' o'
+    → (r ≡ r') × (w ≡ w') × (o ≡ o')
 
 -- a call that keeps the rules
 pub record RulesKept (c : Call) : Type 0 where

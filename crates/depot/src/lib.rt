@@ -1,20 +1,38 @@
 // A depot's work on one fragment: the rules of list and fragment, the formula in lent memory, and the reply written from it.
 #![tactic(auto)]
 
-ghost use Rattle.std.specs.Prelude.{◌≡◌, ◌+◌, ◌*◌, ◌/◌, ◌≤◌, length, replicate};
-ghost use Rattle.meaning.specs.Fragment.{Sound};
-ghost use Rattle.question.specs.Listed.{Keeps};
+ghost use Rattle.std.specs.Prelude.{◌≡◌, length};
 ghost use Rattle.fragment.specs.Lent.{lent};
-ghost use Rattle.depot.specs.inner.Worked.{Worked};
+ghost use Rattle.depot.specs.inner.Worked.{Fit, Checked, Worked, call_of};
 ghost use Rattle.depot.specs.Answer.{call, Answered};
+ghost use Rattle.depot.specs.Number.{refusal_number, size_of};
+ghost use Rattle.depot.specs.declared.Refusal.TheVariants.{TooManySteps};
 
-use formula::{fill, formula};
+use formula::{TooMany, formula};
 use fragment::fragment_ok;
 use question::List;
 use question::rules::list_ok;
-use writing::{reply_size, reply_write, stand_ins};
+use writing::{Held, reply_size, reply_write, stand_ins};
 
-// The number of refusal, 0 for none, and the reply's size in bytes, 0 on refusal.
+// Why a depot refuses, by the numbers of refusal.
+#[derive(Clone, Copy, Debug, PartialEq, Eq)]
+pub enum Refusal {
+    BadList = 5,
+    BadFragment = 6,
+    ShortWork = 7,
+    TooManySteps = 8,
+    ShortReply = 9,
+}
+
+impl From<TooMany> for Refusal {
+    ghost from_gives = { λ _ r. r ≡ TooManySteps };
+
+    fn from(_many: TooMany) -> Refusal {
+        Refusal::TooManySteps
+    }
+}
+
+// An answer as C has it, a number beside a value: the number of refusal, 0 for none, and the reply's size in bytes, 0 on refusal.
 #[repr(C)]
 #[derive(Clone, Copy)]
 pub struct Answer {
@@ -22,69 +40,74 @@ pub struct Answer {
     pub size: usize,
 }
 
-fn refusing(n: usize) -> Answer
-    ensures { (result.refusal ≡ n) × (result.size ≡ 0) }
-{
-    Answer {
-        refusal: n,
-        size: 0,
+impl From<Result<usize, Refusal>> for Answer {
+    ghost from_gives = { λ r a. (a.refusal ≡ refusal_number r) × (a.size ≡ size_of r) };
+
+    fn from(outcome: Result<usize, Refusal>) -> Answer {
+        match outcome {
+            Ok(size) => Answer { refusal: 0, size },
+            Err(refusal) => Answer {
+                refusal: refusal as usize,
+                size: 0,
+            },
+        }
     }
 }
 
-// The answer once work is done, which leaves the memory all zero.
-fn ended(work: &mut [u16], refusal: usize, size: usize) -> Answer
-    ensures refusal_value { (result.refusal ≡ refusal) × (result.size ≡ size) }
-    ensures work_after { work.new ≡ replicate (length work.old) 0 }
-{
-    fill(work, 0);
-    Answer { refusal, size }
-}
-
-// The formula, and the reply written from it, for a list and a fragment that keep their rules and memory enough.
-fn worked(
+// What a depot is asked: the list over its text, of the fragment with this number, for the question with that one.
+#[derive(Clone, Copy)]
+struct Call<'a> {
+    text: &'a [u8],
     list: List,
-    text: &[u8],
-    rows: &[u32],
-    pool: &[u8],
+    rows: &'a [u32],
+    pool: &'a [u8],
     fragment: u32,
     number: u32,
-    work: &mut [u16],
-    out: &mut [u8],
-) -> Answer
-    requires keeps { Keeps list text.now }
-    requires sound { Sound fragment (lent rows.now pool.now) }
-    requires count_in_bounds { 4 * (length rows.now / 6 * list.count) + 12288 ≤ length work.old }
-    ensures { Worked (call list text.now (lent rows.now pool.now) fragment number) work.old out.old result.refusal result.size work.new out.new }
-{
-    let steps = formula(list, text, rows, pool, work);
-    if steps.over {
-        return ended(work, 8, 0);
-    }
-    let made = steps.count;
-    let entries = list.count;
-    let ins = stand_ins(rows);
-    let need = reply_size(12, entries, ins, made);
-    if out.len() < need {
-        return ended(work, 9, 0);
-    }
-    let cells = rows.len() / 6 * entries;
-    let size = reply_write(
-        out,
-        12,
-        number,
-        fragment,
-        entries,
-        rows,
-        &work[..],
-        4 * cells,
-        made,
-        0,
-        2 * cells,
-    );
-    ended(work, 0, size)
 }
 
-// A depot's reply to a question about its fragment.
+impl<'a> Call<'a> {
+    // Whether list and fragment keep their rules, and `room` numbers of work memory are enough.
+    fn check(&self, room: usize) -> Result<(), Refusal>
+        ensures { Checked (call_of self.now) room result }
+    {
+        if self.number == 0 || !list_ok(self.list, self.text) {
+            return Err(Refusal::BadList);
+        }
+        if !fragment_ok(self.rows, self.pool, self.fragment) {
+            return Err(Refusal::BadFragment);
+        }
+        let cells = self.rows.len() / 6 * self.list.count;
+        if room < 4 * cells + 12288 {
+            return Err(Refusal::ShortWork);
+        }
+        Ok(())
+    }
+
+    // The formula, and the reply written from it; the work memory is left as it comes.
+    fn reply(&self, work: &mut [u16], out: &mut [u8]) -> Result<usize, Refusal>
+        requires { Fit (call_of self.now) (length work.old) }
+        ensures { Worked (call_of self.now) out.old result out.new }
+    {
+        let steps = formula(self.list, self.text, self.rows, self.pool, work)?;
+        let entries = self.list.count;
+        let need = reply_size(12, entries, stand_ins(self.rows), steps);
+        if out.len() < need {
+            return Err(Refusal::ShortReply);
+        }
+        let cells = self.rows.len() / 6 * entries;
+        let held = Held {
+            work,
+            from: 4 * cells,
+            steps,
+            v: 0,
+            d: 2 * cells,
+            entries,
+        };
+        Ok(reply_write(out, 12, self.number, self.fragment, self.rows, held))
+    }
+}
+
+// A depot's reply to a question about its fragment. The parameters stand apart, as C hands them over.
 pub fn depot_reply(
     text: &[u8],
     list: List,
@@ -94,24 +117,19 @@ pub fn depot_reply(
     number: u32,
     work: &mut [u16],
     out: &mut [u8],
-) -> Answer
-    ensures { Answered (call list text.now (lent rows.now pool.now) fragment number) work.old out.old result.refusal result.size work.new out.new }
+) -> Result<usize, Refusal>
+    ensures { Answered (call list text.now (lent rows.now pool.now) fragment number) work.old out.old (refusal_number result) (size_of result) work.new out.new }
 {
-    if number == 0 {
-        return refusing(5);
-    }
-    let kept = list_ok(list, text);
-    if !kept {
-        return refusing(5);
-    }
-    let sound = fragment_ok(rows, pool, fragment);
-    if !sound {
-        return refusing(6);
-    }
-    let entries = list.count;
-    let cells = rows.len() / 6 * entries;
-    if work.len() < 4 * cells + 12288 {
-        return refusing(7);
-    }
-    worked(list, text, rows, pool, fragment, number, work, out)
+    let call = Call {
+        text,
+        list,
+        rows,
+        pool,
+        fragment,
+        number,
+    };
+    call.check(work.len())?;
+    let size = call.reply(work, out);
+    work.fill(0);
+    size
 }

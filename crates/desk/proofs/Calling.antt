@@ -1,6 +1,6 @@
 -- What opening, accepting and asking have shown, on plain values.
 use borrow.Rule.Slice.PartMut.{put_mid}
-use Prim.Native.Nat.{ℕ, zero, suc, ◌+◌, ◌-◌, ◌≤◌, ◌<◌}
+use Prim.Native.Nat.{ℕ, zero, suc, ◌-◌, ◌≤◌, ◌<◌}
 use native.Mathlib.Omega.{arith}
 use native.Mathlib.Decide.{ℕ_discrete}
 use mathlib.Core.Path.{◌≡◌, refl, sym, ap, ◌∙◌, subst}
@@ -10,6 +10,7 @@ use mathlib.Core.Option.{Option, none, some}
 use mathlib.Core.List.{List, ◌++◌}
 use lib.ListN.{length, drop, replicate}
 use lib.Seq.{drop-drop}
+use Rattle.std.proofs.lemmas.List.{drop-replicate}
 use Rattle.meaning.specs.Bytes.{Bytes}
 use Rattle.meaning.specs.Algebra.{bool}
 use Rattle.meaning.specs.Reply.{Reply}
@@ -18,26 +19,28 @@ use Rattle.reply.specs.Read.{Is}
 use Rattle.reply.specs.inner.Decode.{decoded}
 use Rattle.reply.specs.inner.Fields.{HeadIs}
 use Rattle.reply.specs.declared.Head.{Head}
-use Rattle.reply.proofs.Round.{is_the, checked_of}
+use Rattle.reply.proofs.Round.{is_the}
 use Rattle.meaning.specs.Refused.{refused, passed, granted}
-use Rattle.whole.specs.Whole.{OpenRules, Judging, Heard, part_of, Opened, Whole}
-use Rattle.whole.specs.inner.Steps.{Judged}
+use Rattle.whole.specs.Whole.{OpenRules, Judging, Heard, part_of, Opened}
+use Rattle.whole.specs.inner.Steps.{Judged, number_of as unfit_code}
 use Rattle.solving.specs.inner.Values.{AllHeard, kept, answer_of}
 use Rattle.desk.specs.Changed.{opened_as, noted, put_at}
-use Rattle.desk.specs.Calls.{Opens, Why, Accepts, Held, said_of, Asks}
+use Rattle.desk.specs.Numbers.{number_of, refusal_of}
+use Rattle.desk.specs.declared.Refusal.{Refusal}
+use Rattle.desk.specs.declared.Refusal.TheVariants.{BadLayout, OldNumber, NoneOpen, NotAReply, OtherQuestion, Misfit, AlreadyHeard, StoreFull, NotWhole}
+use Rattle.whole.specs.declared.Unfit.{Unfit}
+use Rattle.whole.specs.declared.Unfit.TheVariants as Unfits
+use Rattle.desk.specs.Calls.{Opens, Room, Why, Accepts, Held, said_of, AskRefusal, Asks}
 use Rattle.whole.specs.declared.Question.{Question}
 use Rattle.whole.specs.declared.Record.{Record}
-use Rattle.whole.proofs.Pieces.{Free, fragment_is, heard_or_not, judged_free, own_reply, was_open}
-use Rattle.solving.proofs.Truths.{bit, solved_same}
+use Rattle.whole.proofs.Pieces.{fragment_is, heard_or_not, judged_free, own_reply, was_open}
 
 -- ---- opening
-drop_zeros : (n m : ℕ) → drop {A = ℕ} n (replicate m 0) ≡ replicate (m - n) 0
-drop_zeros zero m = let e : m - zero ≡ m = omega arith in rw e refl
-drop_zeros (suc n) zero = let e : zero - suc n ≡ 0 = omega arith in rw e refl
-drop_zeros (suc n) (suc m) = let e : suc m - suc n ≡ m - n = omega arith in rw e (drop_zeros n m)
-
 pub opened_as_lem : (layout l : Bytes) (entries number : ℕ) → l ≡ layout → record { last = number; used = 0; question = record { number = number; entries = entries; parts = length layout; layout = l ++ drop (length layout) (replicate 32 0); heard = replicate 32 0; place = replicate 32 0; size = replicate 32 0 } } ≡ opened_as layout entries number
-opened_as_lem layout l entries number e = rw (e, drop_zeros (length layout) 32) refl
+opened_as_lem layout l entries number e = rw (e, drop-replicate {X = ℕ} (length layout) 32 0) refl
+
+pub rules_of : {layout : Bytes} {m n : ℕ} → OpenRules layout m → m ≡ n → OpenRules layout n
+rules_of {layout} k e = subst (OpenRules layout) e k
 
 module _ (d : Record) (layout : Bytes) (entries number : ℕ) where
   pub opens_10 : (OpenRules layout entries → ⊥) → Opens d layout entries number 10 d
@@ -48,6 +51,23 @@ module _ (d : Record) (layout : Bytes) (entries number : ℕ) where
 
   pub opens : (after : Record) → OpenRules layout entries → d.last < number → after ≡ opened_as layout entries number → Opens d layout entries number 0 after
   opens after k h e = record { why = passed k (passed h granted); refused = λ n. absurd (n refl); opened = λ z. e }
+
+-- ---- numbers
+pub number_some : (e : Refusal) → number_of e ≢ 0
+number_some BadLayout z = absurd (omega arith)
+number_some OldNumber z = absurd (omega arith)
+number_some NoneOpen z = absurd (omega arith)
+number_some NotAReply z = absurd (omega arith)
+number_some OtherQuestion z = absurd (omega arith)
+number_some Misfit z = absurd (omega arith)
+number_some AlreadyHeard z = absurd (omega arith)
+number_some StoreFull z = absurd (omega arith)
+number_some NotWhole z = absurd (omega arith)
+
+pub unfit_number : (u : Unfit) → unfit_code u ≡ number_of (refusal_of u)
+unfit_number Unfits.NotAReply = refl
+unfit_number Unfits.OtherQuestion = refl
+unfit_number Unfits.Misfit = refl
 
 -- ---- accepting
 module _ {q : Question} {s : Bytes} {rest : ℕ → Type 0} where
@@ -70,44 +90,12 @@ module _ (q : Question) (s : Bytes) (h : Head) (H : HeadIs s h) where
   pub heard_before : {c : ℕ} → Judged q s c → c ≡ 0 → Heard q h.fragment → ((r : Reply) → Is 12 s r → Heard q r.fragment → ⊥) → ⊥
   heard_before j e k f = let t = judged_free j e in f t.0 t.1.is (subst (λ g. Heard q g) (fragment_is q s t.0 t.1.is h H) k)
 
-pub record Taken (d : Record) (store s : Bytes) : Type 0 where
-  pub open_now : Opened d.question d.used store
-  pub number_some : d.question.number ≢ 0
-  pub reply : Reply
-  pub free : Free d.question s reply
-  pub new : Heard d.question reply.fragment → ⊥
-  pub room : d.used + length s ≤ length store
-
-pub why_taken : {d : Record} {store s : Bytes} {c : ℕ} → Why d store s c → c ≡ 0 → Taken d store s
-why_taken (refused h) e = absurd (omega arith)
-why_taken (passed w (refused h)) e = absurd (omega arith)
-why_taken (passed w (passed n (refused h))) e = absurd (omega arith)
-why_taken (passed w (passed n (passed t (refused h)))) e = absurd (omega arith)
-why_taken (passed w (passed n (passed t (passed u (refused h))))) e = absurd (omega arith)
-why_taken (passed w (passed n (passed t (passed u (passed v (refused h)))))) e = absurd (omega arith)
-why_taken (passed w (passed n (passed t (passed u (passed v (passed k (refused h))))))) e = absurd (omega arith)
-why_taken {d} {store} (passed w (passed n (passed t (passed u (passed v (passed k (passed l granted))))))) e = record {
-  open_now = was_open d store w n;
-  number_some = n;
-  reply = t.0;
-  free = record { is = t.1; number_same = u t.0 t.1; shaped = v t.0 t.1 };
-  new = k t.0 t.1;
-  room = l;
-}
-
-pub taken_long : {d : Record} {store s : Bytes} → Taken d store s → 8 ≤ length s
-taken_long {d} {store} {s} t = omega (arith, (checked_of 12 s t.reply t.free.is).head)
-
 pub put_back : (u k : ℕ) (xs rs ys : List ℕ) → k ≡ length rs → ys ≡ rs → put_mid u k xs ys ≡ put_at u rs xs
 put_back u k xs rs ys f e = rw (e, f, drop-drop (length rs) u xs) refl
 
-pub accepts : (d : Record) (store s : Bytes) (h : Head) (n : ℕ) (a : Record) (after : Bytes) → Why d store s 0 → HeadIs s h → n ≡ length s
-    → a ≡ noted d h.fragment n → after ≡ put_at d.used s store → Accepts d store s 0 a after
-accepts d store s h n a after w H en ea es = record {
-  why = w;
-  refused = λ k. absurd (k refl);
-  taken = λ z r i. (ea ∙ rw (fragment_is d.question s r i h H, en) refl, es);
-}
+pub accepts : (d : Record) (store s : Bytes) (f : ℕ) (a : Record) (after : Bytes) → Why d store s 0 → ((r : Reply) → Is 12 s r → f ≡ r.fragment)
+    → a ≡ noted d f (length s) → after ≡ put_at d.used s store → Accepts d store s 0 a after
+accepts d store s f a after w e ea es = record { why = w; refused = λ k. absurd (k refl); taken = λ z r i. (ea ∙ ap (λ g. noted d g (length s)) (e r i), es) }
 
 -- ---- asking
 -- the replies held, by computing
@@ -189,40 +177,33 @@ module _ (q : Question) (store : Bytes) where
         solve_held k (omega arith) (solved bool q.entries (held_of q store k) k S)
         ∙ ap (λ o. solve bool q.entries (kept q store) k (solved bool q.entries o k S)) (held_some k (h k l))
 
-    answer_bit : answer_of q store ≡ bit top
+    answer_is : answer_of q store ≡ top
     unfolding answer_of
-    answer_bit =
-        (solved_same q.entries (kept q store) q.parts).v_same 0 (q.entries - 1)
-        ∙ ap (λ (S : Values Bool). bit (S.v 0 (q.entries - 1))) (sym (solve_held q.parts (omega arith) (no_values bool q.entries)))
+    answer_is = ap (λ (S : Values Bool). S.v 0 (q.entries - 1)) (sym (solve_held q.parts (omega arith) (no_values bool q.entries)))
 
     outcome_is : outcome q.entries q.parts (held_of q store) ≡ said top
     unfolding outcome
     outcome_is = ap (λ b. cond b (said top) waiting) (all_heard_lem q.parts (λ f l. ap is_heard (held_some f (h f l))))
 
-    pub answers_no : (x : ℕ) → x ≡ answer_of q store → x ≡ 0 → Said 1
-    answers_no x e z = go top (sym z ∙ e ∙ answer_bit) ∙ ap said_of (sym outcome_is)
-      where
-        go : (b : Bool) → 0 ≡ bit b → 1 ≡ said_of (said b)
-        go true e = absurd (omega arith)
-        go false e = refl
+    pub answers : (b : Bool) → b ≡ answer_of q store → Said (said_of (said b))
+    answers b e = ap said_of (ap said (e ∙ answer_is) ∙ sym outcome_is)
 
-    pub answers_yes : (x : ℕ) → x ≡ answer_of q store → x ≢ 0 → Said 2
-    answers_yes x e z = go top (λ k. z (e ∙ answer_bit ∙ k)) ∙ ap said_of (sym outcome_is)
-      where
-        go : (b : Bool) → bit b ≢ 0 → 2 ≡ said_of (said b)
-        go true e = refl
-        go false e = absurd (e refl)
+module _ {d : Record} {store : Bytes} where
+  pub ready_open : {c : ℕ} → AskRefusal d store c → c ≡ 0 → Opened d.question d.used store
+  ready_open (refused h) e = absurd (omega arith)
+  ready_open (passed w (refused h)) e = absurd (omega arith)
+  ready_open (passed w (passed n granted)) e = was_open d store w n
 
-module _ (d : Record) (store : Bytes) where
-  pub asks_20 : (Whole d store → ⊥) → Asks d store 20 0
-  asks_20 h = record { why = refused h; refused = λ n. refl; answered = λ e. absurd (omega arith) }
+  -- what is refused here is refused by accepting; what is not, as what comes next says
+  pub why_early : {s : Bytes} {c : ℕ} → AskRefusal d store c → c ≢ 0 → Why d store s c
+  why_early (refused h) n = refused h
+  why_early (passed w (refused h)) n = passed w (refused h)
+  why_early (passed w (passed m granted)) n = absurd (n refl)
 
-  pub asks_12 : Whole d store → d.question.number ≡ 0 → Asks d store 12 0
-  asks_12 w e = record { why = passed w (refused (λ n. n e)); refused = λ n. refl; answered = λ z. absurd (omega arith) }
+  pub why_then : {s : Bytes} {c x : ℕ} → AskRefusal d store c → c ≡ 0 → Judging d.question s (Room d store s) x → Why d store s x
+  why_then (refused h) e j = absurd (omega arith)
+  why_then (passed w (refused h)) e j = absurd (omega arith)
+  why_then (passed w (passed n granted)) e j = passed w (passed n j)
 
-  pub asks : (answer : ℕ) → Whole d store → d.question.number ≢ 0 → Said d.question store answer → Asks d store 0 answer
-  asks answer w n e = record {
-    why = passed w (passed n granted);
-    refused = λ z. absurd (z refl);
-    answered = λ z. (held_of d.question store, held_are d.question store d.used (was_open d store w n), e);
-  }
+  pub asks : {c answer : ℕ} → AskRefusal d store c → c ≡ 0 → Said d.question store answer → Asks d store c answer
+  asks w z e = record { why = w; refused = λ n. absurd (n z); answered = λ k. (held_of d.question store, held_are d.question store d.used (ready_open w z), e) }

@@ -2,3 +2,4 @@
 pub mod Calling
 pub mod Unique
 pub mod Keeping
+pub mod Numbers

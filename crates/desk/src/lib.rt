@@ -2,23 +2,60 @@
 // Anyone may fill a record with anything: accepting and asking first judge record and store whole.
 #![tactic(auto)]
 
-ghost use Rattle.std.specs.Prelude.{◌≡◌, ◌+◌, ◌^◌, ◌≤◌, ◌<◌, length};
-ghost use Rattle.meaning.specs.Register.{Layout};
-ghost use Rattle.desk.specs.Calls.{Opens, Why, Accepts, Asks};
+ghost use Rattle.std.specs.Prelude.{◌≡◌, ◌+◌, ◌^◌, ◌≤◌, ◌<◌, length, IfOk};
+ghost use Rattle.meaning.specs.Reply.{Reply};
+ghost use Rattle.reply.specs.Read.{Is};
+ghost use Rattle.desk.specs.Numbers.{number_of, refusal_number, record_after, said_number, refusal_of};
+ghost use Rattle.desk.specs.Calls.{Opens, AskRefusal, Why, Accepts, Asks};
 ghost use Rattle.desk.specs.Changed.{fresh_record, opened_as, noted};
 
-use reply::header;
 use solving::{all_heard, answer};
-use whole::{Question, Record, is_heard, judge, layout_ok, whole};
+use whole::{Question, Record, Unfit, judge, rules_ok, whole};
 
-// A refusal (0: none), and the record afterwards.
-#[derive(Clone, Copy)]
-pub struct Answer {
-    pub refusal: u8,
-    pub desk: Record,
+// Why a call is refused; the discriminants are the numbers of refusal.
+#[derive(Clone, Copy, Debug, PartialEq, Eq)]
+pub enum Refusal {
+    BadLayout = 10,
+    OldNumber = 11,
+    NoneOpen = 12,
+    NotAReply = 13,
+    OtherQuestion = 14,
+    Misfit = 15,
+    AlreadyHeard = 16,
+    StoreFull = 17,
+    NotWhole = 20,
 }
 
-// A refusal (0: none), and what is said (0 where refused).
+impl From<Unfit> for Refusal {
+    ghost from_gives = { λ unfit refusal. refusal ≡ refusal_of unfit };
+
+    fn from(unfit: Unfit) -> Refusal {
+        match unfit {
+            Unfit::NotAReply => Refusal::NotAReply,
+            Unfit::OtherQuestion => Refusal::OtherQuestion,
+            Unfit::Misfit => Refusal::Misfit,
+        }
+    }
+}
+
+// The refusal's number.
+impl From<Refusal> for u8 {
+    ghost from_gives = { λ refusal number. number ≡ number_of refusal };
+
+    fn from(refusal: Refusal) -> u8 {
+        refusal as u8
+    }
+}
+
+// What is said of the open question.
+#[derive(Clone, Copy, Debug, PartialEq, Eq)]
+pub enum Said {
+    Waiting = 0,
+    No = 1,
+    Yes = 2,
+}
+
+// For C: a refusal's number (0: none), and the number of what is said (0 where refused).
 #[repr(C)]
 #[derive(Clone, Copy)]
 pub struct Asked {
@@ -26,11 +63,22 @@ pub struct Asked {
     pub said: u8,
 }
 
-const WAITING: u8 = 0;
+impl From<Result<Said, Refusal>> for Asked {
+    ghost from_gives = { λ said asked. (asked.refusal ≡ refusal_number said) × (asked.said ≡ said_number said) };
 
-const NO: u8 = 1;
-
-const YES: u8 = 2;
+    fn from(said: Result<Said, Refusal>) -> Asked {
+        match said {
+            Ok(said) => Asked {
+                refusal: 0,
+                said: said as u8,
+            },
+            Err(refusal) => Asked {
+                refusal: refusal as u8,
+                said: 0,
+            },
+        }
+    }
+}
 
 pub fn desk_fresh() -> Record
     ensures { result ≡ fresh_record }
@@ -42,10 +90,10 @@ pub fn desk_fresh() -> Record
             number: 0,
             entries: 0,
             parts: 0,
-            layout: [0u8; 32],
-            heard: [0u8; 32],
-            place: [0usize; 32],
-            size: [0usize; 32],
+            layout: [0; 32],
+            heard: [0; 32],
+            place: [0; 32],
+            size: [0; 32],
         },
     }
 }
@@ -55,94 +103,75 @@ fn opened_as(layout: &[u8], entries: usize, number: u64) -> Record
     requires { length layout.now ≤ 32 }
     ensures { result ≡ opened_as layout.now entries number }
 {
-    let mut parents = [0u8; 32];
-    let n = layout.len();
-    parents[..n].copy_from_slice(layout);
+    let mut parents = [0; 32];
+    parents[..layout.len()].copy_from_slice(layout);
     Record {
         last: number,
         used: 0,
         question: Question {
-            number: number,
-            entries: entries,
-            parts: n,
+            number,
+            entries,
+            parts: layout.len(),
             layout: parents,
-            heard: [0u8; 32],
-            place: [0usize; 32],
-            size: [0usize; 32],
+            ..desk_fresh().question
         },
     }
 }
 
 // Opening, by value.
-pub fn opened(desk: Record, layout: &[u8], entries: usize, number: u32) -> Answer
-    ensures { Opens desk layout.now entries number result.refusal result.desk }
+pub fn opened(desk: Record, layout: &[u8], entries: usize, number: u32) -> Result<Record, Refusal>
+    ensures { Opens desk layout.now entries number (refusal_number result) (record_after desk result) }
 {
-    if !layout_ok(layout) {
-        return Answer {
-            refusal: 10,
-            desk: desk,
-        };
+    if !rules_ok(layout, entries) {
+        return Err(Refusal::BadLayout);
     }
-    if entries < 1 {
-        return Answer {
-            refusal: 10,
-            desk: desk,
-        };
+    let number = u64::from(number);
+    if number <= desk.last {
+        return Err(Refusal::OldNumber);
     }
-    if 32 < entries {
-        return Answer {
-            refusal: 10,
-            desk: desk,
-        };
-    }
-    let n = number as u64;
-    if n <= desk.last {
-        return Answer {
-            refusal: 11,
-            desk: desk,
-        };
-    }
-    let d = opened_as(layout, entries, n);
-    Answer {
-        refusal: 0,
-        desk: d,
-    }
+    Ok(opened_as(layout, entries, number))
 }
 
-// Opens the question of that number and forgets all earlier replies; answers the refusal.
-pub fn desk_open(desk: &mut Record, layout: &[u8], entries: usize, number: u32) -> u8
-    ensures { Opens desk.old layout.now entries number result desk.new }
+// Opens the question of that number and forgets all earlier replies.
+pub fn desk_open(
+    desk: &mut Record,
+    layout: &[u8],
+    entries: usize,
+    number: u32,
+) -> Result<(), Refusal>
+    ensures { Opens desk.old layout.now entries number (refusal_number result) desk.new }
 {
-    let a = opened(*desk, layout, entries, number);
-    *desk = a.desk;
-    a.refusal
+    *desk = opened(*desk, layout, entries, number)?;
+    Ok(())
 }
 
-// Why the bytes s are refused; 0: they are not.
-fn why(desk: Record, store: &[u8], s: &[u8]) -> u8
-    ensures { Why desk store.now s.now result }
+// Whether record and store are whole and a question is open.
+fn ready(desk: Record, store: &[u8]) -> Result<(), Refusal>
+    ensures { AskRefusal desk store.now (refusal_number result) }
 {
     if !whole(desk, store) {
-        return 20;
+        return Err(Refusal::NotWhole);
     }
-    let q = desk.question;
-    if q.number == 0 {
-        return 12;
+    if desk.question.number == 0 {
+        return Err(Refusal::NoneOpen);
     }
-    let j = judge(q, s);
-    if j != 0 {
-        return j;
+    Ok(())
+}
+
+// The fragment whose reply the bytes s are, or why they are refused.
+fn fragment_of(desk: Record, store: &[u8], s: &[u8]) -> Result<usize, Refusal>
+    ensures number { Why desk store.now s.now (refusal_number result) }
+    ensures fragment { IfOk result (λ f. (f < 32) × ((r : Reply) → Is 12 s.now r → f ≡ r.fragment)) }
+{
+    ready(desk, store)?;
+    let fragment = judge(desk.question, s)?.fragment as usize;
+    if desk.question.is_heard(fragment) {
+        return Err(Refusal::AlreadyHeard);
     }
-    let h = header(s);
-    let heard = q.heard;
-    if is_heard(&heard, h.fragment as usize) {
-        return 16;
+    if store.len() - desk.used < s.len() {
+        return Err(Refusal::StoreFull);
     }
-    let used = desk.used;
-    if store.len() - used < s.len() {
-        return 17;
-    }
-    0
+    Ok(fragment)
 }
 
 // The record once n bytes of fragment f are put at the end of the used part.
@@ -150,87 +179,49 @@ fn noted_in(desk: Record, f: usize, n: usize) -> Record
     requires { (f < 32) × (desk.used + n < 2 ^ 64) }
     ensures { result ≡ noted desk f n }
 {
-    let used = desk.used;
-    let mut q = desk.question;
-    q.heard[f] = 1;
-    q.place[f] = used;
-    q.size[f] = n;
-    Record {
-        last: desk.last,
-        used: used + n,
-        question: q,
-    }
+    let mut after = desk;
+    after.used += n;
+    after.question.heard[f] = 1;
+    after.question.place[f] = desk.used;
+    after.question.size[f] = n;
+    after
 }
 
 // Accepting, by value.
-pub fn accepted(desk: Record, store: &mut [u8], reply: &[u8]) -> Answer
-    ensures { Accepts desk store.old reply.now result.refusal result.desk store.new }
+pub fn accepted(desk: Record, store: &mut [u8], reply: &[u8]) -> Result<Record, Refusal>
+    ensures { Accepts desk store.old reply.now (refusal_number result) (record_after desk result) store.new }
 {
-    let c = why(desk, store, reply);
-    if c != 0 {
-        return Answer {
-            refusal: c,
-            desk: desk,
-        };
-    }
-    let h = header(reply);
-    let used = desk.used;
-    let n = reply.len();
-    store[used..used + n].copy_from_slice(reply);
-    let d = noted_in(desk, h.fragment as usize, n);
-    Answer {
-        refusal: 0,
-        desk: d,
-    }
+    let fragment = fragment_of(desk, store, reply)?;
+    store[desk.used..desk.used + reply.len()].copy_from_slice(reply);
+    Ok(noted_in(desk, fragment, reply.len()))
 }
 
-// Takes a reply into the store and marks its fragment heard; answers the refusal.
-pub fn desk_accept(desk: &mut Record, store: &mut [u8], reply: &[u8]) -> u8
-    ensures { Accepts desk.old store.old reply.now result desk.new store.new }
+// Takes a reply into the store and marks its fragment heard.
+pub fn desk_accept(desk: &mut Record, store: &mut [u8], reply: &[u8]) -> Result<(), Refusal>
+    ensures { Accepts desk.old store.old reply.now (refusal_number result) desk.new store.new }
 {
-    let a = accepted(*desk, store, reply);
-    *desk = a.desk;
-    a.refusal
+    *desk = accepted(*desk, store, reply)?;
+    Ok(())
 }
 
 // Asking, by value.
-pub fn asked_of(desk: Record, store: &[u8]) -> Asked
-    ensures { Asks desk store.now result.refusal result.said }
+pub fn asked_of(desk: Record, store: &[u8]) -> Result<Said, Refusal>
+    ensures { Asks desk store.now (refusal_number result) (said_number result) }
 {
-    if !whole(desk, store) {
-        return Asked {
-            refusal: 20,
-            said: 0,
-        };
+    ready(desk, store)?;
+    if !all_heard(desk.question) {
+        return Ok(Said::Waiting);
     }
-    let q = desk.question;
-    if q.number == 0 {
-        return Asked {
-            refusal: 12,
-            said: 0,
-        };
-    }
-    if !all_heard(q) {
-        return Asked {
-            refusal: 0,
-            said: WAITING,
-        };
-    }
-    if answer(q, desk.used, store) == 0 {
-        return Asked {
-            refusal: 0,
-            said: NO,
-        };
-    }
-    Asked {
-        refusal: 0,
-        said: YES,
+    if answer(desk.question, desk.used, store) {
+        Ok(Said::Yes)
+    } else {
+        Ok(Said::No)
     }
 }
 
 // What is said of the open question.
-pub fn desk_ask(desk: &Record, store: &[u8]) -> Asked
-    ensures { Asks desk.now store.now result.refusal result.said }
+pub fn desk_ask(desk: &Record, store: &[u8]) -> Result<Said, Refusal>
+    ensures { Asks desk.now store.now (refusal_number result) (said_number result) }
 {
     asked_of(*desk, store)
 }

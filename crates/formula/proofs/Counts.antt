@@ -1,10 +1,14 @@
 -- Stand-ins counted: a position is a count of the rows before.
-use Prim.Native.Nat.{ℕ, zero, suc, ◌+◌, ◌-◌, ◌/◌, ◌<◌, ◌≤◌}
+use Prim.Native.Nat.{ℕ, zero, suc, ◌+◌, ◌-◌, ◌*◌, ◌/◌, ◌<◌, ◌≤◌}
 use native.Mathlib.Omega.{arith}
 use mathlib.Core.Path.{◌≡◌, refl, sym, ap, ◌∙◌}
 use mathlib.Core.Bool.{Bool, true, false, cond}
 use mathlib.Core.List.{List, [], ◌∷◌, ◌++◌}
-use lib.ListN.{length, length-append}
+use lib.ListN.{length, get_or, length-append}
+use mir.Val.{bool_byte}
+use Rattle.meaning.specs.Says.{Says}
+use Rattle.meaning.proofs.Says.{says_same}
+use Rattle.meaning.proofs.Numbers.{says_eqb}
 use Rattle.meaning.specs.Bound.{count}
 use Rattle.meaning.specs.Fragment.{Rows, rows_of}
 use Rattle.meaning.specs.Reply.{stand_ins}
@@ -19,6 +23,14 @@ count_is R (suc k) = go (R.stands k) (count_is R k)
     go : (b : Bool) → count R.stands k ≡ length (stand_ins R k) → count R.stands k + cond b 1 0 ≡ length (cond b (stand_ins R k ++ (R.goes k ∷ [])) (stand_ins R k))
     go true e = rw length-append (omega arith)
     go false e = omega arith
+
+-- a stand-in at row k, as a number
+pub one_is : (rows : List ℕ) (k : ℕ) {b : Bool} {r : ℕ} → Says (get_or rows (k * 6 + 1) 0 ≡ 1) b → r ≡ bool_byte b → r ≡ cond (stands rows k) 1 0
+one_is rows k {b} s e = e ∙ go b ∙ ap (λ q. cond q 1 0) (says_same s (says_eqb (get_or rows (k * 6 + 1) 0) 1))
+  where
+    go : (b : Bool) → bool_byte b ≡ cond b 1 0
+    go true = refl
+    go false = refl
 
 pub count_less : (p : ℕ → Bool) (k : ℕ) {n r : ℕ} → 0 < k → n ≡ count p k → r ≡ cond (p (k - 1)) 1 0 → n ≡ count p (k - 1) + r
 unfolding count

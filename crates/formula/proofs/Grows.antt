@@ -84,9 +84,12 @@ module _ (l : L.List) (t : Bytes) (F : Fragment) (size : ℕ) where
   unfolding row_f
   row_over k place s h = both Stays (stands F.rows k) h (across_over (entry_f l t F size (k * l.count) k) (λ i s h. entry_over (k * l.count) k i s h) 0 l.count s h)
 
-  pub deliver_over : (k place : ℕ) (s : St) → s.steps ≡ 4097 → (deliver_f l t F size k place s).steps ≡ 4097
+  pub deliver_stops : (k place : ℕ) (s : St) → (row_f l t F size k place s).steps ≡ 4097 → (deliver_f l t F size k place s).steps ≡ 4097
   unfolding deliver_f
-  deliver_over k place s h = both Stays (eqb k 0) (row_over k place s h) (across_over (lift_f size _ _) (λ i s h. lift_over size _ _ i s h) 0 l.count _ (row_over k place s h))
+  deliver_stops k place s h = both Stays (eqb k 0) h (across_over (lift_f size _ _) (λ i s h. lift_over size _ _ i s h) 0 l.count _ h)
+
+  pub deliver_over : (k place : ℕ) (s : St) → s.steps ≡ 4097 → (deliver_f l t F size k place s).steps ≡ 4097
+  deliver_over k place s h = deliver_stops k place s (row_over k place s h)
 
 -- THE LIST GETS NO SHORTER
 pub join_grows : (z : Bool) (s : List Step) (a b : Ref) → length s ≤ length (join z s a b).0

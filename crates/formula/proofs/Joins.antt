@@ -1,34 +1,48 @@
--- WHAT JOINING GIVES, by the tests that the code makes of the two operands.
-use Prim.Native.Nat.{ℕ, ◌-◌, ◌*◌}
-use mathlib.Core.Path.{◌≡◌}
+-- WHAT JOINING GIVES, by the tests that the code makes of the two operands: d is the constant that decides, and the other one leaves the other operand.
+use Prim.Native.Nat.{ℕ, ◌+◌, ◌-◌, ◌*◌, ◌≤◌}
+use native.Mathlib.Omega.{arith}
+use native.Mathlib.Decide.{ℕ_discrete}
+use mathlib.Core.Path.{◌≡◌, refl, ap}
+use mathlib.Core.Logic.{◌⊎◌, inl, inr}
 use mathlib.Core.List.{List}
 use borrow.Author.Tests.{eq-eqb, ne_eqb}
-use Rattle.formula.specs.inner.Flat.{Got, got, add_f, join_f}
+use Rattle.formula.specs.declared.Op.{Op}
+use Rattle.formula.specs.declared.Op.TheVariants.{And, Or, Not}
+use Rattle.formula.specs.contracts.Op.{the_type}
+use denote.Enum.Declared.{tag_of}
+use Rattle.formula.specs.inner.Memory.{op_number}
+use Rattle.formula.specs.inner.Flat.{got, add_f, join_f}
 
-module _ (size op a b : ℕ) (m : List ℕ) (n : ℕ) where
-  -- the constant that decides, and the one that leaves the other operand
-  abbrev decides : ℕ
-  decides = op * 4096
+-- the number that an operation is cast to
+pub tag_is : (op : Op) → tag_of the_type op ≡ op_number op
+tag_is And = refl
+tag_is Or = refl
+tag_is Not = refl
 
-  abbrev leaves : ℕ
-  leaves = 4096 - op * 4096
-
-  pub left_decides : a ≡ decides → got m n a ≡ join_f size op a b m n
+module _ (size op a b : ℕ) (m : List ℕ) (n d leaves : ℕ) (small : op ≤ 1) (is : d ≡ op * 4096) (rest : d + leaves ≡ 4096) where
+  pub takes_left : (a ≡ d) ⊎ ((a ≡ d → ⊥) × (b ≡ leaves)) → got m n a ≡ join_f size op a b m n
   unfolding join_f
-  left_decides e = simp (eq-eqb _ _ e)
+  takes_left (inl e) = simp (eq-eqb a (op * 4096) (omega arith))
+  takes_left (inr (u, e)) = go (ℕ_discrete a (4096 - op * 4096))
+    where
+      go : Dec (a ≡ 4096 - op * 4096) → got m n a ≡ join_f size op a b m n
+      go (yes y) = let same : a ≡ b = omega arith in simp (ne_eqb a (op * 4096) (λ z. u (omega arith)), eq-eqb _ _ y) (ap (got m n) same)
+      go (no y) = simp (ne_eqb a (op * 4096) (λ z. u (omega arith)), ne_eqb _ _ y, ne_eqb b (op * 4096) (λ z. omega arith), eq-eqb b (4096 - op * 4096) (omega arith))
 
-  pub left_leaves : (a ≡ decides → ⊥) → a ≡ leaves → got m n b ≡ join_f size op a b m n
+  pub takes_right : (a ≡ d → ⊥) → (b ≡ d) ⊎ ((b ≡ d → ⊥) × (a ≡ leaves)) → got m n b ≡ join_f size op a b m n
   unfolding join_f
-  left_leaves x e = simp (ne_eqb _ _ x, eq-eqb _ _ e)
+  takes_right x (inr (u, e)) = simp (ne_eqb a (op * 4096) (λ z. x (omega arith)), eq-eqb a (4096 - op * 4096) (omega arith))
+  takes_right x (inl e) = go (ℕ_discrete a (4096 - op * 4096))
+    where
+      go : Dec (a ≡ 4096 - op * 4096) → got m n b ≡ join_f size op a b m n
+      go (yes y) = simp (ne_eqb a (op * 4096) (λ z. x (omega arith)), eq-eqb _ _ y)
+      go (no y) = simp (ne_eqb a (op * 4096) (λ z. x (omega arith)), ne_eqb _ _ y, eq-eqb b (op * 4096) (omega arith))
 
-  pub right_decides : (a ≡ decides → ⊥) → (a ≡ leaves → ⊥) → b ≡ decides → got m n b ≡ join_f size op a b m n
+  pub takes_step : (a ≡ d → ⊥) → (a ≡ leaves → ⊥) → (b ≡ d → ⊥) → (b ≡ leaves → ⊥) → add_f size op a b m n ≡ join_f size op a b m n
   unfolding join_f
-  right_decides x y e = simp (ne_eqb _ _ x, ne_eqb _ _ y, eq-eqb _ _ e)
-
-  pub right_leaves : (a ≡ decides → ⊥) → (a ≡ leaves → ⊥) → (b ≡ decides → ⊥) → b ≡ leaves → got m n a ≡ join_f size op a b m n
-  unfolding join_f
-  right_leaves x y z e = simp (ne_eqb _ _ x, ne_eqb _ _ y, ne_eqb _ _ z, eq-eqb _ _ e)
-
-  pub no_constant : (a ≡ decides → ⊥) → (a ≡ leaves → ⊥) → (b ≡ decides → ⊥) → (b ≡ leaves → ⊥) → {g : Got} → g ≡ add_f size op a b m n → g ≡ join_f size op a b m n
-  unfolding join_f
-  no_constant x y z w e = simp (ne_eqb _ _ x, ne_eqb _ _ y, ne_eqb _ _ z, ne_eqb _ _ w) e
+  takes_step x y z w = simp (
+    ne_eqb a (op * 4096) (λ e. x (omega arith)),
+    ne_eqb a (4096 - op * 4096) (λ e. y (omega arith)),
+    ne_eqb b (op * 4096) (λ e. z (omega arith)),
+    ne_eqb b (4096 - op * 4096) (λ e. w (omega arith)),
+  )

@@ -4,6 +4,7 @@ pub mod Loops
 pub mod Words
 pub mod Counts
 pub mod Joins
+pub mod Stops
 pub mod Held
 pub mod Grows
 pub mod Visits

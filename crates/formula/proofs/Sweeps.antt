@@ -4,11 +4,13 @@ use native.Mathlib.Omega.{arith}
 use native.Mathlib.Nat.{add-zero}
 use native.Mathlib.Decide.{ℕ_discrete, dec_lt}
 use mathlib.Core.Path.{◌≡◌, refl, sym, ap, ◌∙◌, subst}
-use mathlib.Core.Bool.{Bool, true, false, cond}
+use mathlib.Core.Bool.{Bool, true, false, cond, false≢true}
 use mathlib.Core.List.{List, []}
 use lib.ListN.{length, get_or, replicate, get_or-replicate, length-replicate}
-use lib.Dec.{ltb}
-use borrow.Author.Tests.{ne_eqb, lt-ltb, le-ltb}
+use borrow.Author.Tests.{ne_eqb}
+use Rattle.std.specs.Prelude.{Result, Ok, Err}
+use Rattle.std.specs.Result.{IsErr}
+use Rattle.formula.specs.declared.TooMany.{TooMany}
 use Rattle.meaning.specs.Bytes.{Bytes, label_is, text_is}
 use Rattle.meaning.specs.Bound.{count}
 use Rattle.meaning.specs.Entry.{Entry}
@@ -20,7 +22,7 @@ use Rattle.meaning.proofs.Numbers.{upd_same, upd_other}
 use Rattle.question.specs.declared.List as L
 use Rattle.question.specs.Listed.{Keeps, listed}
 use Rattle.writing.specs.inner.Codes.{code, numbers}
-use Rattle.formula.specs.inner.Made.{Laid, Made, within, over}
+use Rattle.formula.specs.inner.Made.{Laid, Within, Made}
 use Rattle.formula.specs.inner.Flat as Flat
 use Rattle.formula.specs.inner.Flat.{St, st, down_from, stands, row_f, deliver_f, sweep_f, push_f}
 use Rattle.formula.proofs.Held as Held
@@ -37,10 +39,6 @@ record TabHeld (size n k : ℕ) (m : List ℕ) (S : Tables formula) : Type 0 whe
   held : Held.Held size m S.st
   child : (r e : ℕ) → r < k → e < n → get_or m (size + r * n + e) 0 ≡ code (S.c r e)
   lower : (r e : ℕ) → r < k → e < n → get_or m (2 * size + r * n + e) 0 ≡ code (S.d r e)
-
-made_of : (size n : ℕ) (o : Vectors formula) (m : List ℕ) (c : ℕ) → Sim c o.st (Laid size n o m) → Made size n o m c (ltb 4096 c)
-made_of size n o m c (Held.live a b x) = rw (le-ltb 4096 c (omega arith), a) (within b x)
-made_of size n o m c (Held.over a b) = rw (lt-ltb 4096 c (omega arith), a) (over b)
 
 module _ (l : L.List) (t : Bytes) (F : Fragment) (number : ℕ) (sound : Sound number F) (keeps : Keeps l t) where
   abbrev R : Rows
@@ -190,11 +188,13 @@ module _ (l : L.List) (t : Bytes) (F : Fragment) (number : ℕ) (sound : Sound n
       both k S = omega (arith, sweep_grows R es v d k S, row_grows R es v d 0 (sweep formula R es v d k S))
 
   -- THE END, from a memory that is all zero
-  pub made : (m : List ℕ) (k : ℕ) (w : St) → 4 * size + 12288 ≤ length m → m ≡ replicate k 0 → w ≡ sweep_f l t F size (row_count F) (st m 0)
-      → Made size n (laid_run R es) w.mem w.steps (ltb 4096 w.steps)
+  abbrev end : List ℕ → St
+  end m = sweep_f l t F size (row_count F) (st m 0)
+
+  ended : (m : List ℕ) (k : ℕ) → 4 * size + 12288 ≤ length m → m ≡ replicate k 0 → Sim (end m).steps (laid_run R es).st (Laid size n (laid_run R es) (end m).mem)
   unfolding run numbers
-  made m k w room zeros e = subst (λ x. Made size n (laid_run R es) x.mem x.steps (ltb 4096 x.steps)) (sym (e ∙ ap (λ k. down_from f k (st m 0)) (sym rows)))
-      (made_of size n (laid_run R es) (down_from f (suc R.last) (st m 0)).mem (down_from f (suc R.last) (st m 0)).steps (sweep_sim R.last (st m 0) S₀ (omega (arith, rows)) refl (omega arith) start))
+  ended m k room zeros = subst (λ k. Sim (down_from f k (st m 0)).steps (laid_run R es).st (Laid size n (laid_run R es) (down_from f k (st m 0)).mem)) rows
+      (sweep_sim R.last (st m 0) S₀ (omega (arith, rows)) refl (omega arith) start)
     where
       rows : suc R.last ≡ row_count F
       rows = omega (arith, sound.some_row)
@@ -214,3 +214,19 @@ module _ (l : L.List) (t : Bytes) (F : Fragment) (number : ℕ) (sound : Sound n
         child = λ r e h k. zero_at (size + r * n + e) (omega (arith, inside h k));
         lower = λ r e h k. zero_at (2 * size + r * n + e) (omega (arith, inside h k));
       }
+
+  -- what is left, in the memory w that holds the end
+  pub made : (m : List ℕ) (k : ℕ) (w : List ℕ) (z : St) {steps : ℕ} → 4 * size + 12288 ≤ length m → m ≡ replicate k 0 → z ≡ end m → z.steps ≤ 4096 → w ≡ z.mem → steps ≡ z.steps → Within size n (laid_run R es) w steps
+  made m k w z room zeros e few p q = rw (p, q) (subst (λ x. x.steps ≤ 4096 → Within size n (laid_run R es) x.mem x.steps) (sym e) (go (ended m k room zeros)) few)
+    where
+      go : {c : ℕ} {m : List ℕ} → Sim c (laid_run R es).st (Laid size n (laid_run R es) m) → c ≤ 4096 → Within size n (laid_run R es) m c
+      go (Held.live a b x) h = record { few = b; count = a; laid = x }
+      go (Held.over a b) h = absurd (omega arith)
+
+  pub too_many : (m : List ℕ) (k : ℕ) (w : List ℕ) (r : Result ℕ TooMany) {P : Type 0} → 4 * size + 12288 ≤ length m → m ≡ replicate k 0 → (end m).steps ≡ 4097 → IsErr r × P → Made size n (laid_run R es) w r
+  too_many m k w (Ok u) room zeros e p = absurd (false≢true p.0)
+  too_many m k w (Err u) room zeros e p = go (ended m k room zeros) e
+    where
+      go : {c : ℕ} {P : Type 0} → Sim c (laid_run R es).st P → c ≡ 4097 → 4096 < length (laid_run R es).st
+      go (Held.live a b x) h = absurd (omega arith)
+      go (Held.over a b) h = b

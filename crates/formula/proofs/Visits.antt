@@ -16,10 +16,9 @@ use Rattle.meaning.specs.Run.{Vectors, upd, literal, value_of, visit}
 use Rattle.meaning.specs.Reply.{tabulated}
 use Rattle.meaning.proofs.Numbers.{upd_same, upd_other}
 use Rattle.question.specs.declared.List as L
-use Rattle.question.specs.Listed.{entry_of, placed, Keeps}
+use Rattle.question.specs.Listed.{entry_of, placed, EntryRule, Keeps}
 use Rattle.writing.specs.inner.Codes.{code}
-use Rattle.formula.specs.inner.Flat.{St, st, Got, across, join_f, truth, test_f, Reads, value_f, enter_f, entry_f, var_f}
-use Rattle.formula.proofs.KindTests.{rule_reads}
+use Rattle.formula.specs.inner.Flat.{St, st, Got, across, join_f, truth, test_f, value_f, enter_f, entry_f, var_f}
 use Rattle.formula.proofs.Held.{Held, Sim, live, after, mapped, Gave, keep, join_sim, not_sim}
 use Rattle.formula.proofs.Grows.{join_over, entry_over, across_over, join_grows, visit_grows}
 
@@ -75,7 +74,7 @@ module _ (t : Bytes) (F : Fragment) (k : ℕ) (size at n : ℕ) (fits : at + n �
   txt w = text_is w ((rows_of F).text k)
 
   module _ (e : ℕ) (m : List ℕ) (ks : ℕ) (s : List Step) (v c d : ℕ → Ref) (inside : e < n) (counts : ks ≡ length s) (most : length s ≤ 4096) (h : RowHeld size at n e m s v c d) where
-    value_sim : (q a b : ℕ) → Reads e q a b
+    value_sim : (q a b : ℕ) → EntryRule t e q a b
         → Sim (value_f size at (placed q a b) (test_f F k (entry_of (word t) q a b)) m ks).steps (value_of formula lab txt (entry_of (word t) q a b) s v c d).0 (Gave size m (value_f size at (placed q a b) (test_f F k (entry_of (word t) q a b)) m ks) (value_of formula lab txt (entry_of (word t) q a b) s v c d).0 (value_of formula lab txt (entry_of (word t) q a b) s v c d).1)
     unfolding entry_of
     value_sim zero a b r = keep size m ks s counts most h.held Ref.high refl
@@ -121,7 +120,7 @@ module _ (t : Bytes) (F : Fragment) (k : ℕ) (size at n : ℕ) (fits : at + n �
         off i l u w = elsewhere j.mem p q g.code j.code apart room i u w ∙ b.same i l ∙ a.same i l
 
     -- V by its kind, then D becomes V or D
-    enter_sim : (q a b : ℕ) → Reads e q a b
+    enter_sim : (q a b : ℕ) → EntryRule t e q a b
         → Sim (enter_f size at e (placed q a b) (test_f F k (entry_of (word t) q a b)) (st m ks)).steps
         (join true (value_of formula lab txt (entry_of (word t) q a b) s v c d).0 (value_of formula lab txt (entry_of (word t) q a b) s v c d).1 (d e)).0
         (Entered size at n e m (enter_f size at e (placed q a b) (test_f F k (entry_of (word t) q a b)) (st m ks)).mem
@@ -149,7 +148,7 @@ module _ (t : Bytes) (F : Fragment) (k : ℕ) (size at n : ℕ) (fits : at + n �
     visit_sim (suc r) i sum z s v d counts most h =
         let x = value_of formula lab txt (entry_at i) s v c d in
         let y = join true x.0 x.1 (d i) in
-        after (enter_sim i z.mem z.steps s v c d (omega arith) counts most h (get_or l.kinds i 0) (get_or l.left i 0) (get_or l.right i 0) (rule_reads (keeps.each i (omega arith))))
+        after (enter_sim i z.mem z.steps s v c d (omega arith) counts most h (get_or l.kinds i 0) (get_or l.left i 0) (get_or l.right i 0) (keeps.each i (omega arith)))
         (λ a b E. mapped (λ o. record { held = o.held; v = o.v; d = o.d; same = λ j u w. o.same j u w ∙ E.same j u w })
         (visit_sim r (suc i) (omega arith) (entry_f l t F size at k i z) y.0 (upd v i x.1) (upd d i y.1) a b E.row))
         (λ a. across_over (entry_f l t F size at k) (λ i s h. entry_over l t F size at k i s h) (suc i) r (entry_f l t F size at k i z) a)

@@ -1,2 +1,2 @@
--- A row's rule as the code tests it.
+-- A row's rule as the code tests it, and chains of tests.
 pub mod Rules

@@ -20,7 +20,7 @@ fn main(rt: HostRuntime) -> io::Result<()> {
     Ok(())
 }
 
-// Reads until the room is full or the text ends.
+// Reads until the room is full or the text ends; std reads to the end of a text into a `Vec` only, and there is no heap.
 fn read_full<R: Read>(from: &mut R, room: &mut [u8; 256]) -> io::Result<usize>
     ensures { IfOk result (λ n. n ≤ 256) }
 {
@@ -36,19 +36,18 @@ fn read_full<R: Read>(from: &mut R, room: &mut [u8; 256]) -> io::Result<usize>
 }
 
 fn answer(rt: &impl Print, text: &[u8]) -> io::Result<()> {
-    let answer = question_read(text);
-    if answer.refusal != 0 {
-        return println!(rt; "refused {}", answer.refusal);
+    match question_read(text) {
+        Ok(list) => print_list(rt, list, text),
+        Err(refusal) => println!(rt; "refused {}", refusal as u8),
     }
-    print_list(rt, answer.list, text)
 }
 
 // No listing has over 2,369 bytes, and the reader's lists keep their rules: there is always one to print.
 fn print_list(rt: &impl Print, list: List, text: &[u8]) -> io::Result<()> {
     let mut page = [0u8; 2369];
     let size = question_listing(list, text, &mut page);
-    if size > 2369 {
-        return Ok(());
+    match page.get(..size) {
+        Some(listing) => io::writer(rt).write_all(listing),
+        None => Ok(()),
     }
-    io::writer(rt).write_all(&page[..size])
 }

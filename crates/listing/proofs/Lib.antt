@@ -1,3 +1,2 @@
 -- The laws behind the listing's proofs.
-pub mod Pages
 pub mod Lines

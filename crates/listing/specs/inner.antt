@@ -1,2 +1,2 @@
 -- What inner functions' contracts cite, and no reader has to believe.
-pub mod Page
+pub mod Parts

@@ -1,5 +1,6 @@
 -- The laws of the definitions in specs/, each file beside the one it is about, and the proofs of what `specs/Promise.antt` promises.
 pub mod Says
+pub mod Ranges
 pub mod Refused
 pub mod Tree
 pub mod Term

@@ -6,7 +6,8 @@ use mathlib.Core.Bool.{Bool, true, false, cond}
 use mathlib.Core.Logic.{◌≢◌}
 use lib.Dec.{T, leb, eqb, eqb→eq, eqb_refl, ltb, lt→ltb, ltb→lt}
 use borrow.Author.Tests.{eqb-true as eqb_yes, eqb-false as eqb_no, ltb-true as ltb_yes, ltb-false as ltb_no, leb-true as leb_yes, leb-false as leb_no}
-use Rattle.meaning.specs.Says.{Says, aye, nay}
+use Rattle.meaning.specs.Says.{Says}
+use Rattle.meaning.proofs.Says.{says_by}
 use Rattle.meaning.specs.Run.{upd}
 
 passed : (b : Bool) → T b → b ≡ true
@@ -42,16 +43,11 @@ module _ {X : Type 0} where
   pub upd_other : (f : ℕ → X) (i : ℕ) (x : X) (j : ℕ) → j ≢ i → upd f i x j ≡ f j
   upd_other f i x j h = ap (λ b. cond b x (f j)) (eqb_false j i h)
 
--- a test's truth value says what is tested
-decides : {A : Type 0} (b : Bool) → (b ≡ true → A) → (b ≡ false → A → ⊥) → Says A b
-decides true h k = aye (h refl)
-decides false h k = nay (k refl)
-
 pub says_eqb : (a b : ℕ) → Says (a ≡ b) (eqb a b)
-says_eqb a b = decides (eqb a b) (eqb_yes a b) (eqb_no a b)
+says_eqb a b = says_by (eqb a b) (eqb_yes a b) (eqb_no a b)
 
 pub says_ltb : (a b : ℕ) → Says (a < b) (ltb a b)
-says_ltb a b = decides (ltb a b) (ltb_yes a b) (λ e h. omega (arith, ltb_no a b e))
+says_ltb a b = says_by (ltb a b) (ltb_yes a b) (λ e h. omega (arith, ltb_no a b e))
 
 pub says_leb : (a b : ℕ) → Says (a ≤ b) (leb a b)
-says_leb a b = decides (leb a b) (leb_yes a b) (λ e h. omega (arith, leb_no a b e))
+says_leb a b = says_by (leb a b) (leb_yes a b) (λ e h. omega (arith, leb_no a b e))

@@ -1,5 +1,5 @@
 -- Laws of `Says`: and, or, not, some. One induction then serves for soundness and completeness.
-use mathlib.Core.Path.{◌≡◌, refl, subst}
+use mathlib.Core.Path.{◌≡◌, refl, sym, subst}
 use mathlib.Core.Bool.{Bool, true, false, not, ◌&&◌, ◌||◌, true≢false, false≢true}
 use mathlib.Core.Logic.{◌⊎◌, inl, inr, ⊎_elim}
 use mathlib.Core.List.{List, [], ◌∷◌, Memᴰ}
@@ -22,6 +22,33 @@ pub says_or : {A B : Type 0} {a b : Bool} → Says A a → Says B b → Says (A 
 says_or (aye r) s = aye (inl r)
 says_or (nay r) (aye s) = aye (inr s)
 says_or (nay r) (nay s) = nay (⊎_elim r s)
+
+-- a test's truth value says what is tested
+pub says_by : {A : Type 0} (b : Bool) → (b ≡ true → A) → (b ≡ false → A → ⊥) → Says A b
+says_by true f g = aye (f refl)
+says_by false f g = nay (g refl)
+
+pub says_at : {A : Type 0} {a b : Bool} → a ≡ b → Says A b → Says A a
+says_at {A} e s = subst (Says A) (sym e) s
+
+-- `p && q` in two parts: the second is tested where the first holds
+pub both_then : {A B : Type 0} {b : Bool} → A → Says B b → Says (A × B) b
+both_then a s = says_iff (λ b. (a, b)) (λ w. w.1) s
+
+pub both_else : {A B : Type 0} {a : Bool} → (A → ⊥) → Says A a → Says (A × B) a
+both_else n s = says_iff (λ a. absurd (n a)) (λ w. w.0) s
+
+-- the same of the chain's value v
+pub says_then : {A B : Type 0} {a b v : Bool} → Says A a → a ≡ true → Says B b → v ≡ b → Says (A × B) v
+says_then (aye x) e s q = says_at q (both_then x s)
+says_then (nay r) e s q = absurd (false≢true e)
+
+pub says_off : {A B : Type 0} {a v : Bool} → Says A a → (A → ⊥) → v ≡ a → Says (A × B) v
+says_off s n q = says_at q (both_else n s)
+
+pub says_else : {A B : Type 0} {a v : Bool} → Says A a → a ≡ false → v ≡ a → Says (A × B) v
+says_else (aye x) e q = absurd (true≢false e)
+says_else (nay r) e q = says_off (nay r) r q
 
 pub says_self : (b : Bool) → Says (b ≡ true) b
 says_self true = aye refl

@@ -1,59 +1,54 @@
--- The rule for an entry, from the tests that the code makes of its kind.
-use Prim.Native.Nat.{ℕ, zero, suc, ◌≤◌, ◌<◌}
+-- The rule for an entry, from its kind and what the code tests of its operands.
+use Prim.Native.Nat.{ℕ, ◌≤◌, ◌<◌}
 use native.Mathlib.Omega.{arith}
-use mathlib.Core.Path.{◌≡◌, refl, sym, subst}
+use mathlib.Core.Path.{◌≡◌, refl, subst}
 use mathlib.Core.Bool.{Bool, true, false}
+use mathlib.Core.Logic.{◌⊎◌, inl, inr}
 use Rattle.meaning.specs.Says.{Says, aye, nay}
 use Rattle.meaning.specs.Bytes.{Bytes}
 use Rattle.meaning.proofs.Says.{says_iff}
 use Rattle.meaning.specs.Entry.{Points}
+use Rattle.question.specs.declared.kind.Kind.{Kind}
+use Rattle.question.specs.declared.kind.Kind.TheVariants.{Itself, Label, Text, Child, At, Below, Or, And, Not}
+use Rattle.question.specs.inner.Kind.{code}
 use Rattle.question.specs.Listed.{Inside, entry_of, placed, EntryRule}
 
--- an entry of a known kind
-rule : {t : Bytes} {i k a b : ℕ} {r : Bool} → k ≤ 8 → Says (Points (Inside t) i (placed k a b)) r → Says (EntryRule t i k a b) r
-rule h s = says_iff (λ p. record { known = h; points = p }) (λ w. w.points) s
+known : (kind : Kind) → code kind ≤ 8
+known Itself = omega arith
+known Label = omega arith
+known Text = omega arith
+known Child = omega arith
+known At = omega arith
+known Below = omega arith
+known Or = omega arith
+known And = omega arith
+known Not = omega arith
 
-module _ (t : Bytes) (i k a b : ℕ) {r : Bool} where
-  is_kind : (m : ℕ) → k ≡ m → Says (EntryRule t i m a b) r → Says (EntryRule t i k a b) r
-  is_kind m e s = subst (λ k. Says (EntryRule t i k a b) r) (sym e) s
+-- an entry of this kind keeps its rule where the kind's own part of the rule holds
+module _ (t : Bytes) (i a b : ℕ) {k : ℕ} {r : Bool} (kind : Kind) (e : code kind ≡ k) where
+  rule : Says (Points (Inside t) i (placed (code kind) a b)) r → Says (EntryRule t i k a b) r
+  rule s = subst (λ k. Says (EntryRule t i k a b) r) e (says_iff (λ p. record { known = known kind; points = p }) (λ w. w.points) s)
 
-  pub child_rule : k ≡ 3 → Says (a < i) r → Says (EntryRule t i k a b) r
+  pub self_rule : kind ≡ Itself → Says (Unit {0}) r → Says (EntryRule t i k a b) r
   unfolding entry_of
-  child_rule e s = is_kind 3 e (rule (omega arith) s)
+  self_rule h s = rule (rw h s)
 
-  pub below_rule : k ≡ 5 → Says (a < i) r → Says (EntryRule t i k a b) r
+  pub word_rule : kind ≡ Label ⊎ kind ≡ Text → Says (Inside t (a, b)) r → Says (EntryRule t i k a b) r
   unfolding entry_of
-  below_rule e s = is_kind 5 e (rule (omega arith) s)
+  word_rule (inl h) s = rule (rw h s)
+  word_rule (inr h) s = rule (rw h s)
 
-  pub not_rule : k ≡ 8 → Says (a < i) r → Says (EntryRule t i k a b) r
+  pub one_rule : kind ≡ Child ⊎ (kind ≡ Below ⊎ kind ≡ Not) → Says (a < i) r → Says (EntryRule t i k a b) r
   unfolding entry_of
-  not_rule e s = is_kind 8 e (rule (omega arith) s)
+  one_rule (inl h) s = rule (rw h s)
+  one_rule (inr (inl h)) s = rule (rw h s)
+  one_rule (inr (inr h)) s = rule (rw h s)
 
-module _ (t : Bytes) (i : ℕ) where
-  pub self_rule : (k a b : ℕ) → k ≡ 0 → Says (EntryRule t i k a b) true
+  pub two_rule : kind ≡ At ⊎ (kind ≡ Or ⊎ kind ≡ And) → Says ((a < i) × (b < i)) r → Says (EntryRule t i k a b) r
   unfolding entry_of
-  self_rule k a b e = is_kind t i k a b 0 e (rule (omega arith) (aye tt))
+  two_rule (inl h) s = rule (rw h s)
+  two_rule (inr (inl h)) s = rule (rw h s)
+  two_rule (inr (inr h)) s = rule (rw h s)
 
-  pub word_rule : (k a b : ℕ) → (k ≡ 0 → ⊥) → k < 3 → {r : Bool} → Says (Inside t (a, b)) r → Says (EntryRule t i k a b) r
-  unfolding entry_of
-  word_rule zero a b z h s = absurd (z refl)
-  word_rule (suc zero) a b z h s = rule (omega arith) s
-  word_rule (suc (suc zero)) a b z h s = rule (omega arith) s
-  word_rule (suc (suc (suc k))) a b z h s = absurd (omega arith)
-
-  pub no_rule : (k a b : ℕ) → 8 < k → Says (EntryRule t i k a b) false
-  no_rule k a b h = nay (λ w. omega (arith, w.known))
-
-  -- at, or, and: the kinds of two parts
-  pub two_rule : (k a b : ℕ) → 3 ≤ k → k ≤ 8 → (k ≡ 3 → ⊥) → (k ≡ 5 → ⊥) → (k ≡ 8 → ⊥) → {r : Bool} → Says ((a < i) × (b < i)) r → Says (EntryRule t i k a b) r
-  unfolding entry_of
-  two_rule zero a b l h x y z s = absurd (omega arith)
-  two_rule (suc zero) a b l h x y z s = absurd (omega arith)
-  two_rule (suc (suc zero)) a b l h x y z s = absurd (omega arith)
-  two_rule (suc (suc (suc zero))) a b l h x y z s = absurd (x refl)
-  two_rule (suc (suc (suc (suc zero)))) a b l h x y z s = rule (omega arith) s
-  two_rule (suc (suc (suc (suc (suc zero))))) a b l h x y z s = absurd (y refl)
-  two_rule (suc (suc (suc (suc (suc (suc zero)))))) a b l h x y z s = rule (omega arith) s
-  two_rule (suc (suc (suc (suc (suc (suc (suc zero))))))) a b l h x y z s = rule (omega arith) s
-  two_rule (suc (suc (suc (suc (suc (suc (suc (suc zero)))))))) a b l h x y z s = absurd (z refl)
-  two_rule (suc (suc (suc (suc (suc (suc (suc (suc (suc k))))))))) a b l h x y z s = absurd (omega arith)
+pub no_rule : (t : Bytes) (i a b : ℕ) {k : ℕ} → 8 < k → Says (EntryRule t i k a b) false
+no_rule t i a b h = nay (λ w. omega (arith, w.known))

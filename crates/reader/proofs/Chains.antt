@@ -1,8 +1,7 @@
 -- Chains of `|` and of `&`, read from left to right; the tree groups to the left.
-use Prim.Native.Nat.{ℕ, ◌+◌, ◌≤◌, ◌<◌}
+use Prim.Native.Nat.{ℕ, ◌+◌, ◌<◌}
 use native.Mathlib.Omega.{arith}
 use mathlib.Core.Path.{◌≡◌, refl, sym, ap, ◌∙◌, subst}
-use mathlib.Core.Bool.{true}
 use mathlib.Core.List.{List, [], ◌∷◌, ◌++◌, append_assoc, append-nil}
 use lib.ListN.{length, get_or, drop}
 use lib.Dec.{lit<}
@@ -11,94 +10,65 @@ use Rattle.meaning.specs.Bytes.{Bytes}
 use Rattle.meaning.specs.Question.{Question, Conj, write_question, write_conj, write_unit}
 use Rattle.meaning.specs.Term.{Term, normal, normal_conj, normal_unit}
 use Rattle.meaning.specs.Entry.{root}
-use Rattle.reader.specs.declared.State.{State}
+use Rattle.reader.specs.declared.state.State.{State}
+use Rattle.reader.specs.declared.grammar.Chain.{Chain}
+use Rattle.question.specs.inner.Kind.{code}
 use Rattle.reader.specs.Packed.{word_place}
-use Rattle.reader.specs.inner.Reading.{added, moved, byte_at, reach, reach_conj, reach_unit, TreeOf, text_of, Follows, Made, MadeOf, slack, Reads, Chain, whole, item, sign, single, joined, grown, write_chain, GoesOn, Extends}
+use Rattle.reader.specs.inner.Reading.{added, moved, byte_at, reach, reach_conj, reach_unit, TreeOf, text_of, Follows, Made, MadeOf, StandsAt, Nowhere, Goes, slack, Found, whole, item, sign, kind_of}
 use Rattle.reader.proofs.Text.{head_at, cons_at}
 use Rattle.reader.proofs.Emit.{emit_or, emit_and}
 use Rattle.reader.proofs.Made.{left_over, after_byte, over_two, recast}
 
-abbrev pub kind_of : Chain → ℕ
-kind_of Chain.ors = 6
-kind_of Chain.ands = 7
+abbrev pub single : (c : Chain) → TreeOf (item c) → TreeOf (whole c)
+single Chain.Ors i = Question.conj i
+single Chain.Ands i = Conj.unit i
+
+abbrev pub joined : (c : Chain) → TreeOf (whole c) → TreeOf (item c) → TreeOf (whole c)
+joined Chain.Ors q i = Question.either q i
+joined Chain.Ands q i = Conj.both q i
+
+unfoldable pub grown : (c : Chain) → TreeOf (whole c) → List (TreeOf (item c)) → TreeOf (whole c)
+grown c q [] = q
+grown c q (i ∷ is) = grown c (joined c q i) is
+
+unfoldable pub write_chain : (c : Chain) → List (TreeOf (item c)) → Bytes
+write_chain c [] = []
+write_chain c (i ∷ is) = sign c ∷ (text_of (item c) i ++ write_chain c is)
 
 sign_some : (c : Chain) → 0 < sign c
-sign_some Chain.ors = lit< tt
-sign_some Chain.ands = lit< tt
+sign_some Chain.Ors = lit< tt
+sign_some Chain.Ands = lit< tt
 
 item_slack : (c : Chain) → slack (item c) ≡ 0
-item_slack Chain.ors = refl
-item_slack Chain.ands = refl
+item_slack Chain.Ors = refl
+item_slack Chain.Ands = refl
 
 whole_slack : (c : Chain) → slack (whole c) ≡ 0
-whole_slack Chain.ors = refl
-whole_slack Chain.ands = refl
+whole_slack Chain.Ors = refl
+whole_slack Chain.Ands = refl
 
 -- what may follow an item
 pub heads : (c : Chain) (is : List (TreeOf (item c))) (z : Bytes) → Follows (whole c) (get_or z 0 0) → Follows (item c) (get_or (write_chain c is ++ z) 0 0)
 unfolding write_chain
-heads Chain.ors [] z f = f.conj
-heads Chain.ors (i ∷ is) z f = record { path = record { bracket = eqb-false 124 91 refl; slash = eqb-false 124 47 refl; paren = eqb-false 124 40 refl; name = refl }; sign = eqb-false 124 38 refl }
-heads Chain.ands [] z f = f.path
-heads Chain.ands (i ∷ is) z f = record { bracket = eqb-false 38 91 refl; slash = eqb-false 38 47 refl; paren = eqb-false 38 40 refl; name = refl }
+heads Chain.Ors [] z f = f.conj
+heads Chain.Ors (i ∷ is) z f = record { path = record { bracket = eqb-false 124 91 refl; slash = eqb-false 124 47 refl; paren = eqb-false 124 40 refl; name = refl }; sign = eqb-false 124 38 refl }
+heads Chain.Ands [] z f = f.path
+heads Chain.Ands (i ∷ is) z f = record { bracket = eqb-false 38 91 refl; slash = eqb-false 38 47 refl; paren = eqb-false 38 40 refl; name = refl }
 
 -- one item more
-module _ {t : Bytes} where
-  single_made : (c : Chain) {s m : State} (i : TreeOf (item c)) → MadeOf (item c) t s m i → MadeOf (whole c) t s m (single c i)
-  unfolding write_question normal reach
-  single_made Chain.ors i m = m
-  single_made Chain.ands i m = m
-
-  joined_made : (c : Chain) (o s m : State) (q : TreeOf (whole c)) (i : TreeOf (item c)) → o.depth ≡ s.depth → byte_at t s.at ≡ sign c → MadeOf (whole c) t o s q → MadeOf (item c) t (moved s (s.at + 1)) m i
-      → MadeOf (whole c) t o (added m (kind_of c) s.top m.top) (joined c q i)
-  unfolding write_question normal reach root
-  joined_made Chain.ors o s m q i d b x y =
-      let n : s.at + 1 ≡ o.at + length (write_question q) + 1 = omega (arith, x.place) in
-      recast refl (ap (λ k. Term.or (normal word_place o.at q) (normal_conj word_place k i)) n)
-      (subst (λ k. Made t o (added m 6 s.top m.top) (write_question q ++ (124 ∷ write_conj i)) (Term.or (normal word_place o.at q) (normal_conj word_place (s.at + 1) i)) (λ z. reach_conj k i (reach o.depth q z))) (sym d)
-      (over_two 6 Term.or emit_or (λ n a b. refl) x (after_byte 124 b (lit< tt) y)))
-  joined_made Chain.ands o s m q i d b x y =
-      let n : s.at + 1 ≡ o.at + length (write_conj q) + 1 = omega (arith, x.place) in
-      recast refl (ap (λ k. Term.and (normal_conj word_place o.at q) (normal_unit word_place k i)) n)
-      (subst (λ k. Made t o (added m 7 s.top m.top) (write_conj q ++ (38 ∷ write_unit i)) (Term.and (normal_conj word_place o.at q) (normal_unit word_place (s.at + 1) i)) (λ z. reach_unit k i (reach_conj o.depth q z))) (sym d)
-      (over_two 7 Term.and emit_and (λ n a b. refl) x (after_byte 38 b (lit< tt) y)))
-
-  pub chain_none : (c : Chain) {s : State} → (byte_at t s.at ≡ sign c → ⊥) → s.at ≤ length t → Extends c t s s
-  unfolding grown write_chain
-  chain_none c {s} n h = record {
-    goes = record { onward = omega arith; inside = h; few = omega arith; level = refl };
-    sound = λ ok. (ok, ([], λ o q d m. m));
-    complete = go;
-  }
-    where
-      go : s.ok ≡ true → (is : List (TreeOf (item c))) (z : Bytes) → drop s.at t ≡ write_chain c is ++ z → Follows (whole c) (get_or z 0 0)
-          → (s.ok ≡ true) × GoesOn c t s s is
-      go ok [] z e f = (ok, λ o q d m. m)
-      go ok (i ∷ is) z e f = absurd (n (head_at t s.at _ e))
-
-  pub chain_more : (c : Chain) {s m r : State} → byte_at t s.at ≡ sign c → Reads (item c) t (moved s (s.at + 1)) m → Extends c t (added m (kind_of c) s.top m.top) r → Extends c t s r
-  unfolding grown write_chain
-  chain_more c {s} {m} {r} b a x = record {
-    goes = record { onward = omega (arith, a.goes, x.goes); inside = x.goes.inside; few = omega (arith, a.goes, x.goes, item_slack c); level = x.goes.level ∙ a.goes.level };
-    sound = λ ok.
-        let y = x.sound ok in
-        let w = a.sound y.0 in
-        (w.0, (w.1.0 ∷ y.1.0, λ o q d k. y.1.1 o (joined c q w.1.0) (d ∙ sym a.goes.level) (joined_made c o s m q w.1.0 d b k w.1.1)));
-    complete = go;
-  }
-    where
-      go : s.ok ≡ true → (is : List (TreeOf (item c))) (z : Bytes) → drop s.at t ≡ write_chain c is ++ z → Follows (whole c) (get_or z 0 0)
-          → (r.ok ≡ true) × GoesOn c t s r is
-      go ok [] z e f = absurd (ends c (subst (Follows (whole c)) (sym (head_at t s.at z e) ∙ b) f))
-        where
-          ends : (c : Chain) → Follows (whole c) (sign c) → ⊥
-          ends Chain.ors g = g.sign refl
-          ends Chain.ands g = g.sign refl
-      go ok (i ∷ is) z e f =
-          let e' : drop (s.at + 1) t ≡ text_of (item c) i ++ (write_chain c is ++ z) = ap (drop 1) (sym (cons_at t s.at (sign c) b (sign_some c)) ∙ e) ∙ append_assoc (text_of (item c) i) (write_chain c is) z in
-          let w = a.complete ok i (write_chain c is ++ z) e' (heads c is z f) in
-          let y = x.complete w.0 is z (left_over (write_chain c is ++ z) w.1 e') f in
-          (y.0, λ o q d k. y.1 o (joined c q i) (d ∙ sym a.goes.level) (joined_made c o s m q i d b k w.1))
+joined_made : (c : Chain) {t : Bytes} (o s m : State) {n k : ℕ} (q : TreeOf (whole c)) (i : TreeOf (item c)) → o.depth ≡ s.depth → byte_at t s.at ≡ sign c → MadeOf (whole c) t o s n q → MadeOf (item c) t (moved s (s.at + 1)) m k i
+    → MadeOf (whole c) t o (added m (code (kind_of c)) n k) m.list.count (joined c q i)
+unfolding write_question normal reach root
+joined_made Chain.Ors {t} o s m {n} {k} q i d b x y =
+    let j : s.at + 1 ≡ o.at + length (write_question q) + 1 = omega (arith, x.place) in
+    recast refl (ap (λ k. Term.or (normal word_place o.at q) (normal_conj word_place k i)) j)
+    (subst (λ d. Made t o (added m 6 n k) m.list.count (write_question q ++ (124 ∷ write_conj i)) (Term.or (normal word_place o.at q) (normal_conj word_place (s.at + 1) i)) (λ z. reach_conj d i (reach o.depth q z))) (sym d)
+    (over_two 6 Term.or emit_or (λ n a b. refl) x (after_byte 124 b (lit< tt) y)))
+joined_made Chain.Ands {t} o s m {n} {k} q i d b x y =
+    let j : s.at + 1 ≡ o.at + length (write_conj q) + 1 = omega (arith, x.place) in
+    recast refl (ap (λ k. Term.and (normal_conj word_place o.at q) (normal_unit word_place k i)) j)
+    (subst (λ d. Made t o (added m 7 n k) m.list.count (write_conj q ++ (38 ∷ write_unit i)) (Term.and (normal_conj word_place o.at q) (normal_unit word_place (s.at + 1) i)) (λ z. reach_unit d i (reach_conj o.depth q z))) (sym d)
+    (over_two 7 Term.and emit_and (λ n a b. refl) x (after_byte 38 b (lit< tt) y)))
 
 -- THE SPINE of a tree that groups to the left: its first item, and the others
 pub record Spine (c : Chain) (q : TreeOf (whole c)) : Type 0 where
@@ -114,51 +84,128 @@ grown_last c q (j ∷ is) i = grown_last c (joined c q j) is i
 unfoldable pub next : (c : Chain) (q : TreeOf (whole c)) (i : TreeOf (item c)) → Spine c q → Spine c (joined c q i)
 next c q i s = record { first = s.first; more = s.more ++ (i ∷ []); is = ap (λ x. joined c x i) s.is ∙ sym (grown_last c (single c s.first) s.more i) }
 
-pub spine_question : (q : Question) → Spine Chain.ors q
+pub spine_question : (q : Question) → Spine Chain.Ors q
 unfolding grown
 spine_question (Question.conj i) = record { first = i; more = []; is = refl }
-spine_question (Question.either q i) = next Chain.ors q i (spine_question q)
+spine_question (Question.either q i) = next Chain.Ors q i (spine_question q)
 
-pub spine_conj : (q : Conj) → Spine Chain.ands q
+pub spine_conj : (q : Conj) → Spine Chain.Ands q
 unfolding grown
 spine_conj (Conj.unit i) = record { first = i; more = []; is = refl }
-spine_conj (Conj.both q i) = next Chain.ands q i (spine_conj q)
+spine_conj (Conj.both q i) = next Chain.Ands q i (spine_conj q)
 
 spine : (c : Chain) (q : TreeOf (whole c)) → Spine c q
-spine Chain.ors q = spine_question q
-spine Chain.ands q = spine_conj q
+spine Chain.Ors q = spine_question q
+spine Chain.Ands q = spine_conj q
 
 joined_text : (c : Chain) (q : TreeOf (whole c)) (i : TreeOf (item c)) → text_of (whole c) (joined c q i) ≡ text_of (whole c) q ++ (sign c ∷ text_of (item c) i)
 unfolding write_question
-joined_text Chain.ors q i = refl
-joined_text Chain.ands q i = refl
+joined_text Chain.Ors q i = refl
+joined_text Chain.Ands q i = refl
 
 pub single_text : (c : Chain) (i : TreeOf (item c)) → text_of (whole c) (single c i) ≡ text_of (item c) i
 unfolding write_question
-single_text Chain.ors i = refl
-single_text Chain.ands i = refl
+single_text Chain.Ors i = refl
+single_text Chain.Ands i = refl
 
 pub grown_text : (c : Chain) (q : TreeOf (whole c)) (is : List (TreeOf (item c))) → text_of (whole c) (grown c q is) ≡ text_of (whole c) q ++ write_chain c is
 unfolding grown write_chain
 grown_text c q [] = sym (append-nil (text_of (whole c) q))
 grown_text c q (i ∷ is) = grown_text c (joined c q i) is ∙ ap (λ x. x ++ write_chain c is) (joined_text c q i) ∙ append_assoc (text_of (whole c) q) (sign c ∷ text_of (item c) i) (write_chain c is)
 
--- AN ITEM AND THE CHAIN BEHIND IT are the whole
-pub chain_all : (c : Chain) {t : Bytes} {s m r : State} → Reads (item c) t s m → Extends c t m r → Reads (whole c) t s r
-chain_all c {t} {s} {m} {r} a x = record {
-  goes = record { onward = omega (arith, a.goes, x.goes); inside = x.goes.inside; few = omega (arith, a.goes, x.goes, item_slack c, whole_slack c); level = x.goes.level ∙ a.goes.level };
-  sound = λ ok.
-      let y = x.sound ok in
-      let w = a.sound y.0 in
-      (w.0, (grown c (single c w.1.0) y.1.0, y.1.1 s (single c w.1.0) (sym a.goes.level) (single_made c w.1.0 w.1.1)));
-  complete = λ ok q z e f. go ok q (spine c q) z e f;
-}
-  where
-    go : s.ok ≡ true → (q : TreeOf (whole c)) → Spine c q → (z : Bytes) → drop s.at t ≡ text_of (whole c) q ++ z → Follows (whole c) (get_or z 0 0) → (r.ok ≡ true) × MadeOf (whole c) t s r q
-    go ok q p z e f =
-        let i = p.first in
-        let is = p.more in
-        let e' : drop s.at t ≡ text_of (item c) i ++ (write_chain c is ++ z) = e ∙ ap (λ x. text_of (whole c) x ++ z) p.is ∙ ap (λ x. x ++ z) (grown_text c (single c i) is ∙ ap (λ x. x ++ write_chain c is) (single_text c i)) ∙ append_assoc (text_of (item c) i) (write_chain c is) z in
-        let w = a.complete ok i (write_chain c is ++ z) e' (heads c is z f) in
-        let y = x.complete w.0 is z (left_over (write_chain c is ++ z) w.1 e') f in
-        (y.0, subst (MadeOf (whole c) t s r) (sym p.is) (y.1 s (single c i) (sym a.goes.level) (single_made c i w.1)))
+-- what is left of the tree q: its first part p was read, and the items is are to be read
+pub record Left (c : Chain) (t : Bytes) (o s : State) (n : ℕ) (q : TreeOf (whole c)) : Type 0 where
+  pub part : TreeOf (whole c)
+  pub items : List (TreeOf (item c))
+  pub is : q ≡ grown c part items
+  pub made : MadeOf (whole c) t o s n part
+  pub after : Bytes
+  pub text : drop s.at t ≡ write_chain c items ++ after
+  pub follows : Follows (whole c) (get_or after 0 0)
+
+-- A CHAIN READ AS FAR AS HERE: what was read is a tree, and of each tree that stands there a first part, whose other items stand here
+pub record Linked (c : Chain) (t : Bytes) (o s : State) (n : ℕ) : Type 0 where
+  pub goes : Goes t o s 0
+  pub sound : (q : TreeOf (whole c)) × MadeOf (whole c) t o s n q
+  pub complete : (q : TreeOf (whole c)) → StandsAt (whole c) t o.at q → Left c t o s n q
+
+module _ (c : Chain) {t : Bytes} where
+  single_made : (c : Chain) {s m : State} {n : ℕ} (i : TreeOf (item c)) → MadeOf (item c) t s m n i → MadeOf (whole c) t s m n (single c i)
+  unfolding write_question normal reach
+  single_made Chain.Ors i m = m
+  single_made Chain.Ands i m = m
+
+  -- a tree's first item stands where the tree does
+  first_item : {a : ℕ} (q : TreeOf (whole c)) → (z : StandsAt (whole c) t a q) → (p : Spine c q) → StandsAt (item c) t a p.first
+  first_item q z p = record {
+    after = write_chain c p.more ++ z.after;
+    text = z.text ∙ ap (λ x. text_of (whole c) x ++ z.after) p.is ∙ ap (λ x. x ++ z.after) (grown_text c (single c p.first) p.more ∙ ap (λ x. x ++ write_chain c p.more) (single_text c p.first)) ∙ append_assoc (text_of (item c) p.first) (write_chain c p.more) z.after;
+    follows = heads c p.more z.after z.follows;
+  }
+
+  pub chain_nowhere : {a : ℕ} → Nowhere (item c) t a → Nowhere (whole c) t a
+  chain_nowhere f = record { none = λ q z. let p = spine c q in f.none p.first (first_item q z p) }
+
+  pub chain_begins : {o s : State} {n : ℕ} → Found (item c) t o s n → Linked c t o s n
+  unfolding first_item
+  chain_begins {o} {s} {n} f = record {
+    goes = record { onward = f.goes.onward; inside = f.goes.inside; few = omega (arith, f.goes, item_slack c); level = f.goes.level; same = f.goes.same };
+    sound = (single c f.sound.0, single_made c f.sound.0 f.sound.1);
+    complete = λ q z.
+        let p = spine c q in
+        let i = first_item q z p in
+        let m = f.complete p.first i in
+        record { part = single c p.first; items = p.more; is = p.is; made = single_made c p.first m; after = z.after; text = left_over i.after m i.text; follows = z.follows };
+  }
+
+  -- where the sign does not stand the chain ends
+  pub chain_ends : {o s : State} {n : ℕ} → Linked c t o s n → (byte_at t s.at ≡ sign c → ⊥) → Found (whole c) t o s n
+  unfolding grown write_chain
+  chain_ends {o} {s} {n} l x = record {
+    goes = record { onward = l.goes.onward; inside = l.goes.inside; few = omega (arith, l.goes, whole_slack c); level = l.goes.level; same = l.goes.same };
+    sound = l.sound;
+    complete = λ q z. let y = l.complete q z in go q y.part y.items y.is y.made y.after y.text;
+  }
+    where
+      go : (q p : TreeOf (whole c)) (is : List (TreeOf (item c))) → q ≡ grown c p is → MadeOf (whole c) t o s n p → (z : Bytes) → drop s.at t ≡ write_chain c is ++ z → MadeOf (whole c) t o s n q
+      go q p [] e m z i = subst (MadeOf (whole c) t o s n) (sym e) m
+      go q p (u ∷ is) e m z i = absurd (x (head_at t s.at _ i))
+
+  -- where it stands an item follows
+  module _ (o s : State) {n : ℕ} (l : Linked c t o s n) (b : byte_at t s.at ≡ sign c) where
+    next_item : (q : TreeOf (whole c)) (y : Left c t o s n q) → (i : TreeOf (item c)) × (is : List (TreeOf (item c))) × (y.items ≡ i ∷ is) × (z : StandsAt (item c) t (s.at + 1) i) × (z.after ≡ write_chain c is ++ y.after)
+    unfolding write_chain
+    next_item q y = go y.items y.text
+      where
+        ends : (c : Chain) → Follows (whole c) (sign c) → ⊥
+        ends Chain.Ors g = g.sign refl
+        ends Chain.Ands g = g.sign refl
+
+        go : (is : List (TreeOf (item c))) → drop s.at t ≡ write_chain c is ++ y.after → (i : TreeOf (item c)) × (js : List (TreeOf (item c))) × (is ≡ i ∷ js) × (z : StandsAt (item c) t (s.at + 1) i) × (z.after ≡ write_chain c js ++ y.after)
+        go [] e = absurd (ends c (subst (Follows (whole c)) (sym (head_at t s.at y.after e) ∙ b) y.follows))
+        go (i ∷ is) e = (
+          i,
+          is,
+          refl,
+          record {
+            after = write_chain c is ++ y.after;
+            text = ap (drop 1) (sym (cons_at t s.at (sign c) b (sign_some c)) ∙ e) ∙ append_assoc (text_of (item c) i) (write_chain c is) y.after;
+            follows = heads c is y.after y.follows;
+          },
+          refl,
+        )
+
+    pub chain_breaks : Nowhere (item c) t (s.at + 1) → Nowhere (whole c) t o.at
+    chain_breaks f = record { none = λ q z. let w = next_item q (l.complete q z) in f.none w.0 w.3 }
+
+    pub chain_more : {m : State} {k : ℕ} → Found (item c) t (moved s (s.at + 1)) m k → Linked c t o (added m (code (kind_of c)) n k) m.list.count
+    unfolding grown
+    chain_more {m} {k} f = record {
+      goes = record { onward = omega (arith, f.goes, l.goes); inside = f.goes.inside; few = omega (arith, f.goes, l.goes, item_slack c); level = f.goes.level ∙ l.goes.level; same = f.goes.same ∙ l.goes.same };
+      sound = (joined c l.sound.0 f.sound.0, joined_made c o s m l.sound.0 f.sound.0 (sym l.goes.level) b l.sound.1 f.sound.1);
+      complete = λ q z.
+          let y = l.complete q z in
+          let w = next_item q y in
+          let d = f.complete w.0 w.3 in
+          record { part = joined c y.part w.0; items = w.1; is = y.is ∙ ap (grown c y.part) w.2; made = joined_made c o s m y.part w.0 (sym l.goes.level) b y.made d; after = y.after; text = left_over w.3.after d w.3.text ∙ w.4; follows = y.follows };
+    }

@@ -6,12 +6,14 @@ use mathlib.Core.List.{[], ◌∷◌, ◌++◌, append_assoc}
 use lib.ListN.{length, get_or, drop}
 use lib.Seq.{get_or-append-add}
 use native.Mathlib.Nat.{add-zero}
+use native.Mathlib.Numerals.{one-add}
+use Rattle.std.specs.List.{prefix_len}
 use lib.Dec.{T, eqb, leb}
 use borrow.Author.Tests.{ne_eqb, eqb-false}
 use Rattle.meaning.specs.Bytes.{Bytes, ascii}
 use Rattle.meaning.specs.Question.{Question, OneUnit, Steps, Rest, Begin, Sign, Move, Name, Quoted, is_letter, is_name_byte, is_name, all, write_begin}
 use Rattle.meaning.specs.Question.{write_question, write_unit, write_steps, write_rest}
-use Rattle.reader.specs.inner.Reading.{fronts, span, Path, write_path, PathEnds}
+use Rattle.reader.specs.inner.Reading.{fronts, Path, write_path, PathEnds}
 use Rattle.reader.proofs.Text.{fronts_split}
 
 -- WORDS
@@ -24,13 +26,13 @@ holds true h = refl
 holds false h = absurd h
 
 -- all bytes of a word pass, and the byte after it does not
-pub span_all : (p : ℕ → Bool) (w x : Bytes) → T (all p w) → p (get_or x 0 0) ≡ false → span p (w ++ x) ≡ length w
-unfolding span all
+pub span_all : (p : ℕ → Bool) (w x : Bytes) → T (all p w) → p (get_or x 0 0) ≡ false → prefix_len p (w ++ x) ≡ length w
+unfolding all
 span_all p [] [] h e = refl
 span_all p [] (b ∷ x) h e = rw e
 span_all p (b ∷ w) x h e =
     let i = both (p b) (all p w) h in
-    rw (holds (p b) i.0) (ap suc (span_all p w x i.1 e))
+    rw (holds (p b) i.0, one-add) (ap suc (span_all p w x i.1 e))
 
 letter_name : (b : ℕ) → is_letter b ≡ true → is_name_byte b ≡ true
 letter_name b e = rw e
@@ -51,7 +53,7 @@ pub not_letter : (b c : ℕ) → is_letter b ≡ true → is_letter c ≡ false 
 not_letter b c x y e = true≢false (sym x ∙ ap is_letter e ∙ y)
 
 -- a name that no `(` follows is no test: f is `label()=` or `text()=`, with n letters before its `(`
-no_test : (f : Bytes) (n : ℕ) → ((y : Bytes) → span is_name_byte (f ++ y) ≡ n) → ((y : Bytes) → get_or (f ++ y) n 0 ≡ 40)
+no_test : (f : Bytes) (n : ℕ) → ((y : Bytes) → prefix_len is_name_byte (f ++ y) ≡ n) → ((y : Bytes) → get_or (f ++ y) n 0 ≡ 40)
     → (w x : Bytes) → T (is_name w) → is_name_byte (get_or x 0 0) ≡ false → (get_or x 0 0 ≡ 40 → ⊥) → fronts f (w ++ x) ≡ false
 no_test f n spans parens w x h e p = go (fronts f (w ++ x)) refl
   where
@@ -63,23 +65,20 @@ no_test f n spans parens w x h e p = go (fronts f (w ++ x)) refl
         split = fronts_split f (w ++ x) i
 
         size : length w ≡ n
-        size = sym (span_all is_name_byte w x (name_all w h) e) ∙ ap (span is_name_byte) split ∙ spans (drop (length f) (w ++ x))
+        size = sym (span_all is_name_byte w x (name_all w h) e) ∙ ap (prefix_len is_name_byte) split ∙ spans (drop (length f) (w ++ x))
 
         at_x : get_or (w ++ x) (length w) 0 ≡ get_or x 0 0
         at_x = ap (λ k. get_or (w ++ x) k 0) (sym (add-zero (length w))) ∙ get_or-append-add w x 0 0
 
 no_label : (w x : Bytes) → T (is_name w) → is_name_byte (get_or x 0 0) ≡ false → (get_or x 0 0 ≡ 40 → ⊥) → fronts (ascii "label()=") (w ++ x) ≡ false
-unfolding span
 no_label = no_test (ascii "label()=") 5 (λ y. refl) (λ y. refl)
 
 no_text : (w x : Bytes) → T (is_name w) → is_name_byte (get_or x 0 0) ≡ false → (get_or x 0 0 ≡ 40 → ⊥) → fronts (ascii "text()=") (w ++ x) ≡ false
-unfolding span
 no_text = no_test (ascii "text()=") 4 (λ y. refl) (λ y. refl)
 
 no_fronts : (b : ℕ) (f x : Bytes) → (get_or x 0 0 ≡ b → ⊥) → fronts (b ∷ f) x ≡ false
-unfolding fronts
 no_fronts b f [] n = refl
-no_fronts b f (y ∷ x) n = rw (ne_eqb y b n)
+no_fronts b f (y ∷ x) n = rw (ne_eqb b y (λ e. n (sym e)))
 
 -- what follows a name
 pub rest_head : (r : Rest) (z : Bytes) → PathEnds (get_or z 0 0) → (is_name_byte (get_or (write_rest r ++ z) 0 0) ≡ false) × (get_or (write_rest r ++ z) 0 0 ≡ 40 → ⊥)
@@ -132,7 +131,7 @@ steps_not (Steps.step Move.star r) z b x y l e = y (sym e)
 steps_not (Steps.step (Move.name n) r) z b x y l e = not_letter _ b (name_head n.bytes (write_rest r ++ z) n.well_named) l (rw append_assoc at e)
 
 steps_no_test : (s : Steps) (z : Bytes) → PathEnds (get_or z 0 0) → (fronts (ascii "label()=") (write_steps s ++ z) ≡ false) × (fronts (ascii "text()=") (write_steps s ++ z) ≡ false)
-unfolding write_question fronts
+unfolding write_question
 steps_no_test (Steps.step Move.dot r) z f = (refl, refl)
 steps_no_test (Steps.step Move.star r) z f = (refl, refl)
 steps_no_test (Steps.step (Move.name n) r) z f =
@@ -149,7 +148,6 @@ is_deep Begin.plain = false
 is_deep Begin.deep = true
 
 pub begin_class : (b : Begin) (s : Steps) (z : Bytes) → fronts (ascii "//") ((write_begin b ++ write_steps s) ++ z) ≡ is_deep b
-unfolding fronts
 begin_class Begin.deep s z = refl
 begin_class Begin.plain s z = no_fronts 47 (47 ∷ []) (write_steps s ++ z) (steps_not s z 47 (eqb-false 47 46 refl) (eqb-false 47 42 refl) refl)
 
@@ -178,7 +176,7 @@ pub data UnitView : UnitKind → OneUnit → Type 0 where
   path : (b : Begin) (s : Steps) → UnitView UnitKind.path (OneUnit.path b s)
 
 pub path_class : (b : Begin) (s : Steps) (z : Bytes) → PathEnds (get_or z 0 0) → unit_class_of ((write_begin b ++ write_steps s) ++ z) ≡ UnitKind.path
-unfolding write_question fronts
+unfolding write_question
 path_class Begin.deep s z f = refl
 path_class Begin.plain s z f =
     let h = steps_no_test s z f in
@@ -192,7 +190,7 @@ unit_kind (OneUnit.text w) = UnitKind.text
 unit_kind (OneUnit.path b s) = UnitKind.path
 
 unit_class_lem : (p : OneUnit) (z : Bytes) → PathEnds (get_or z 0 0) → unit_class_of (write_unit p ++ z) ≡ unit_kind p
-unfolding write_question fronts
+unfolding write_question
 unit_class_lem (OneUnit.deny p) z f = refl
 unit_class_lem (OneUnit.group q) z f = refl
 unit_class_lem (OneUnit.label w) z f = refl
@@ -236,7 +234,7 @@ pub data RestView : RestKind → Rest → Type 0 where
 
 -- what follows is classed by its form
 pub view_class : (r : Rest) (z : Bytes) → PathEnds (get_or z 0 0) → (k : RestKind) → RestView k r → rest_class_of (write_rest r ++ z) ≡ k
-unfolding write_question fronts
+unfolding write_question
 view_class r z f k RestView.end = rw (ne_eqb _ 91 f.bracket, ne_eqb _ 47 f.slash)
 view_class r z f k (RestView.ends w) = refl
 view_class r z f k (RestView.bracket q u) = refl

@@ -2,11 +2,12 @@
 pub mod Text
 pub mod Emit
 pub mod Made
+pub mod Ways
 pub mod Heads
-pub mod Chains
-pub mod Units
 pub mod Words
+pub mod Units
 pub mod Walk
+pub mod Chains
 pub mod Ready
 pub mod Nesting
 pub mod Unique

@@ -4,11 +4,12 @@ use native.Mathlib.Omega.{arith}
 use native.Mathlib.Nat.{zero-add}
 use native.Mathlib.Decide.{ℕ_discrete}
 use mathlib.Core.Path.{◌≡◌, refl, sym, ap, ap₂, ◌∙◌, subst}
-use mathlib.Core.Bool.{Bool, true, false, not, true≢false, false≢true}
-use mathlib.Core.Logic.{◌≢◌}
-use mathlib.Core.List.{List, [], ◌++◌, append-nil}
-use lib.ListN.{length, drop}
+use mathlib.Core.Bool.{false}
+use mathlib.Core.List.{List, [], ◌∷◌, ◌++◌, append-nil}
+use lib.ListN.{length, get_or, drop}
 use lib.Seq.{drop-length}
+use lib.Dec.{eqb}
+use borrow.Author.Tests.{eqb-false}
 use Rattle.meaning.specs.Refused.{Unless, Granted}
 use Rattle.meaning.proofs.Refused.{One, one_granted, one_unless, through}
 use Rattle.meaning.specs.Bytes.{Bytes}
@@ -16,25 +17,25 @@ use Rattle.meaning.specs.Question.{Question, write_question}
 use Rattle.meaning.specs.Term.{normal}
 use Rattle.meaning.specs.Entry.{Entry}
 use Rattle.meaning.proofs.Entry.{flat_earlier}
-use Rattle.reader.specs.declared.State.{State}
-use Rattle.reader.specs.declared.Answer.{Answer}
+use Rattle.std.specs.Borrow.{Bor}
+use Rattle.reader.specs.declared.state.State.{State}
 use Rattle.reader.specs.Nesting.{nesting}
 use Rattle.reader.specs.Packed.{word_place, placed_entries, packed, empty_list}
-use Rattle.reader.specs.Read.{Written, Sized, Scan, ReadRefusal, Read}
-use Rattle.reader.specs.inner.Reading.{kept, emitted, Form, Ready, Reads, refused, Scanned}
+use Rattle.reader.specs.Read.{Written, Sized, Scan, ReadRefusal, Read, read_number, answer_of}
+use Rattle.reader.specs.declared.Refusal.{Refusal}
+use Rattle.std.specs.Prelude.{Result, Ok, Err}
+use Rattle.question.specs.declared.List as L
+use Rattle.reader.specs.inner.Reading.{kept, emitted, Form, StandsAt, Nowhere, Found}
 use Rattle.question.specs.Listed.{Place, Keeps, listed}
-use Rattle.reader.specs.Promise.{OneRead, ReadKeeps, ReadListed}
+use Rattle.reader.specs.Promise.{OneRead, OneResult, ReadKeeps, ReadListed}
 use Rattle.reader.proofs.Emit.{kept_count}
 use Rattle.reader.proofs.Nesting.{reach_all}
 use Rattle.reader.proofs.Unique.{write_once, by_nothing}
 use Rattle.reader.proofs.Pack.{kept_packed, all_small}
 use Rattle.reader.proofs.Placed.{words_small, packed_keeps, packed_listed}
 
-abbrev pub start : State
-start = record { ok = true; at = 0; top = 0; depth = 0; most = 0; list = empty_list }
-
-pub start_ready : (t : Bytes) → length t ≤ 255 → Ready t start
-start_ready t h = record { small = h; inside = omega arith; few = omega arith; level = omega arith }
+abbrev pub start : Bor Bytes → State
+start x = record { text = x; at = 0; depth = 0; most = 0; list = empty_list }
 
 one_tree : {t : Bytes} (w v : Written t) → w.tree ≡ v.tree
 one_tree w v = write_once w.tree v.tree (w.writes ∙ sym v.writes)
@@ -43,47 +44,77 @@ one_tree w v = write_once w.tree v.tree (w.writes ∙ sym v.writes)
 every : {t : Bytes} (P : Question → Type 0) (w : Written t) → P w.tree → (v : Written t) → P v.tree
 every P w p v = subst P (one_tree w v) p
 
--- 1, 2 AND 3
+count_kept : (es : List (Entry Place)) → (kept es empty_list).count ≡ length es
+count_kept es = kept_count es empty_list ∙ omega arith
+
+pub sized : (t : Bytes) → eqb (length t) 0 ≡ false → length t ≤ 255 → Sized t
+sized t e h = (omega (arith, eqb-false (length t) 0 e), h)
+
+-- A REFUSAL, by its number
+some_number : (r : Refusal) → read_number r ≡ 0 → ⊥
+some_number Refusal.TextLength e = omega arith
+some_number Refusal.NotAQuestion e = omega arith
+some_number Refusal.TooNested e = omega arith
+some_number Refusal.TooManyEntries e = omega arith
+
 module _ {t : Bytes} where
-  refuses : {n : ℕ} → n ≢ 0 → Scan t Granted n → Scanned t (refused n)
-  refuses h y = record { why = y; refused = λ n. refl; listed = λ e. absurd (h e) }
+  refuses : (r : Refusal) → ReadRefusal t (read_number r) → Read t (answer_of (Err r))
+  refuses r y = record { why = y; refused = λ n. refl; listed = λ e. absurd (some_number r e) }
 
-  pub wrong_length : (Sized t → ⊥) → Scanned t (refused 1)
-  wrong_length n = refuses (λ e. omega arith) (Unless.refused n)
+  pub wrong_length : (Sized t → ⊥) → Read t (answer_of (Err Refusal.TextLength))
+  wrong_length n = refuses Refusal.TextLength (Unless.refused n)
 
-  pub not_grammar : Sized t → (Written t → ⊥) → Scanned t (refused 2)
-  not_grammar h n = refuses (λ e. omega arith) (Unless.passed h (Unless.refused n))
+  pub not_grammar : Sized t → (Written t → ⊥) → Read t (answer_of (Err Refusal.NotAQuestion))
+  not_grammar h n = refuses Refusal.NotAQuestion (Unless.passed h (Unless.refused n))
 
-module _ (t : Bytes) (s : State) (a : Reads Form.question t start s) where
+-- a text of the grammar stands at its start, followed by nothing
+whole_text : {t : Bytes} (w : Written t) → StandsAt Form.question t 0 w.tree
+whole_text w = record { after = []; text = sym (append-nil (write_question w.tree) ∙ w.writes); follows = by_nothing }
+
+pub none_written : {t : Bytes} → Nowhere Form.question t 0 → Written t → ⊥
+none_written f w = f.none w.tree (whole_text w)
+
+module _ {t : Bytes} {x : Bor Bytes} {s : State} {n : ℕ} (f : Found Form.question t (start x) s n) where
   -- a text of the grammar is read to its end
-  pub not_written : (s.ok ≡ true → s.at ≡ length t → ⊥) → Written t → ⊥
-  not_written n w =
-      let r = a.complete refl w.tree [] (sym (append-nil (write_question w.tree) ∙ w.writes)) by_nothing in
-      n r.0 (r.1.place ∙ zero-add (length (write_question w.tree)) ∙ ap length w.writes)
+  pub not_written : (s.at ≡ length t → ⊥) → Written t → ⊥
+  not_written y w = y ((f.complete w.tree (whole_text w)).place ∙ zero-add (length (write_question w.tree)) ∙ ap length w.writes)
 
   -- what was read to its end is of the grammar
-  pub written : s.ok ≡ true → s.at ≡ length t → (w : Written t) × (s.most ≡ nesting w.tree) × (s.list ≡ kept (placed_entries w.tree) empty_list)
+  pub written : s.at ≡ length t → (w : Written t) × (s.most ≡ nesting w.tree) × (s.list ≡ kept (placed_entries w.tree) empty_list)
   unfolding emitted
-  written ok e =
-      let r = a.sound ok in
-      let m = r.1.1 in
-      (record { tree = r.1.0; writes = sym (m.text ∙ ap (λ n. write_question r.1.0 ++ drop n t) e ∙ ap (λ x. write_question r.1.0 ++ x) (drop-length t) ∙ append-nil (write_question r.1.0)) }, m.most ∙ reach_all r.1.0, m.list)
+  written e =
+      let q = f.sound.0 in
+      let m = f.sound.1 in
+      (record { tree = q; writes = sym (m.text ∙ ap (λ n. write_question q ++ drop n t) e ∙ ap (λ x. write_question q ++ x) (drop-length t) ∙ append-nil (write_question q)) }, m.most ∙ reach_all q, m.list)
 
-  pub scan_deep : Sized t → s.ok ≡ true → s.at ≡ length t → 12 < s.most → Scanned t (refused 3)
-  scan_deep h ok e d =
-      let w = written ok e in
-      refuses (λ z. omega arith) (Unless.passed h (Unless.passed w.0 (Unless.refused (λ f. omega (arith, d, w.1, f w.0)))))
+  -- the entries counted are those of the tree
+  counted : (e : s.at ≡ length t) → s.list.count ≡ length (placed_entries (written e).0.tree)
+  counted e = let w = written e in ap (λ l. l.count) w.2 ∙ count_kept (placed_entries w.0.tree)
 
-  pub scan_read : Sized t → s.ok ≡ true → s.at ≡ length t → s.most ≤ 12 → Scanned t (record { refusal = 0; list = s.list })
-  scan_read h ok e d =
-      let w = written ok e in
-      record {
-        why = Unless.passed h (Unless.passed w.0 (Unless.passed (every (λ q. nesting q ≤ 12) w.0 (subst (λ n. n ≤ 12) w.1 d)) Granted.granted));
-        refused = λ n. absurd (n refl);
-        listed = λ z v. w.2 ∙ ap (λ q. kept (placed_entries q) empty_list) (one_tree w.0 v);
-      }
+  pub too_deep : Sized t → s.at ≡ length t → 12 < s.most → Read t (answer_of (Err Refusal.TooNested))
+  too_deep h e d =
+      let w = written e in
+      refuses Refusal.TooNested (Unless.passed h (Unless.passed w.0 (Unless.refused (λ g. omega (arith, d, w.1, g w.0)))))
 
--- 4
+  module _ (h : Sized t) (e : s.at ≡ length t) (d : s.most ≤ 12) where
+    shallow : (w : Written t) → nesting w.tree ≤ 12
+    shallow = let w = written e in every (λ q. nesting q ≤ 12) w.0 (subst (λ n. n ≤ 12) w.1 d)
+
+    pub too_many : 32 < s.list.count → Read t (answer_of (Err Refusal.TooManyEntries))
+    too_many y =
+        let w = (written e).0 in
+        refuses Refusal.TooManyEntries (Unless.passed h (Unless.passed w (Unless.passed shallow (Unless.refused (λ few. omega (arith, y, counted e, few w))))))
+
+    pub all_read : s.list.count ≤ 32 → Read t (answer_of (Ok s.list))
+    all_read y =
+        let w = written e in
+        let few : length (placed_entries w.0.tree) ≤ 32 = omega (arith, counted e) in
+        record {
+          why = Unless.passed h (Unless.passed w.0 (Unless.passed shallow (Unless.passed (every (λ q. length (placed_entries q) ≤ 32) w.0 few) Granted.granted)));
+          refused = λ n. absurd (n refl);
+          listed = λ z v. w.2 ∙ kept_packed (placed_entries w.0.tree) few (all_small 0 (placed_entries w.0.tree) (omega arith) (flat_earlier (normal word_place 0 w.0.tree) 0) (words_small t w.0.tree h.1 w.0.writes)) ∙ ap (λ q. packed (placed_entries q)) (one_tree w.0 v);
+        }
+
 -- what is known of a text that is not refused by 1, 2 or 3
 record Passed (t : Bytes) : Type 0 where
   sized : Sized t
@@ -99,46 +130,6 @@ passed z s =
 
 go_on : {t : Bytes} {n : ℕ} {P : ℕ → Type 0} → Passed t → P n → Scan t P n
 go_on a p = Unless.passed a.sized (Unless.passed a.tree (Unless.passed a.shallow p))
-
--- another end
-after : {A : Type 0} {c n : ℕ} {P Q : ℕ → Type 0} → (P n → Q n) → Unless A c P n → Unless A c Q n
-after f (Unless.refused x) = Unless.refused x
-after f (Unless.passed a p) = Unless.passed a (f p)
-
-no_number : {n : ℕ} → Granted n → n ≡ 0
-no_number Granted.granted = refl
-
-count_kept : (es : List (Entry Place)) → (kept es empty_list).count ≡ length es
-count_kept es = kept_count es empty_list ∙ omega arith
-
-module _ {t : Bytes} {r : Answer} (s : Scanned t r) where
-  -- the entries counted are those of the tree
-  counted : r.refusal ≡ 0 → (w : Written t) → r.list.count ≡ length (placed_entries w.tree)
-  counted z w = ap (λ l. l.count) (s.listed z w) ∙ count_kept (placed_entries w.tree)
-
-  pub over_many : 32 < r.list.count → Read t (refused 4)
-  over_many h =
-      let a = (passed taken s.why).0 in
-      record { why = go_on a (Unless.refused (λ few. omega (arith, h, counted taken a.tree, few a.tree))); refused = λ n. refl; listed = λ e. absurd (omega arith) }
-    where
-      taken : r.refusal ≡ 0
-      taken = elim (ℕ_discrete r.refusal 0) [
-        | yes e ↦ e
-        | no n ↦ absurd (omega (arith, h, ap (λ l. l.count) (s.refused n)))
-      ]
-
-  pub few_enough : r.list.count ≤ 32 → Read t r
-  few_enough h = record {
-    why = after (after (after (λ g. Unless.passed (few (no_number g)) g))) s.why;
-    refused = s.refused;
-    listed = λ z w. s.listed z w ∙ small z w;
-  }
-    where
-      few : r.refusal ≡ 0 → (w : Written t) → length (placed_entries w.tree) ≤ 32
-      few z w = omega (arith, h, counted z w)
-
-      small : r.refusal ≡ 0 → (w : Written t) → kept (placed_entries w.tree) empty_list ≡ packed (placed_entries w.tree)
-      small z w = kept_packed (placed_entries w.tree) (few z w) (all_small 0 (placed_entries w.tree) (omega (arith, few z w)) (flat_earlier (normal word_place 0 w.tree) 0) (words_small t w.tree (passed z s.why).0.sized.1 w.writes))
 
 -- ONE ANSWER
 one_refusal : (t : Bytes) → One (ReadRefusal t)
@@ -178,11 +169,23 @@ read_keeps t l r =
 pub read_listed : ReadListed
 read_listed t l r w = ap (λ l. listed l t) (r.listed refl w) ∙ packed_listed t w.tree w.writes (few_entries r.why w)
 
--- a test that is turned round
-pub not_yes : (b : Bool) → not b ≡ true → b ≡ true → ⊥
-not_yes true e f = false≢true e
-not_yes false e f = false≢true f
+-- ONE RESULT
+refusal_of : ℕ → Refusal
+refusal_of n = get_or (Refusal.TextLength ∷ Refusal.TextLength ∷ Refusal.NotAQuestion ∷ Refusal.TooNested ∷ Refusal.TooManyEntries ∷ []) n Refusal.TextLength
 
-pub not_no : (b : Bool) → not b ≡ false → b ≡ true
-not_no true e = refl
-not_no false e = absurd (true≢false e)
+own_refusal : (r : Refusal) → refusal_of (read_number r) ≡ r
+unfolding refusal_of
+own_refusal Refusal.TextLength = refl
+own_refusal Refusal.NotAQuestion = refl
+own_refusal Refusal.TooNested = refl
+own_refusal Refusal.TooManyEntries = refl
+
+-- no two results have one answer
+one_answer : (r s : Result L.List Refusal) → answer_of r ≡ answer_of s → r ≡ s
+one_answer (Ok l) (Ok m) e = ap Ok (ap (λ a. a.list) e)
+one_answer (Ok l) (Err r) e = absurd (some_number r (sym (ap (λ a. a.refusal) e)))
+one_answer (Err r) (Ok l) e = absurd (some_number r (ap (λ a. a.refusal) e))
+one_answer (Err r) (Err q) e = ap Err (sym (own_refusal r) ∙ ap refusal_of (ap (λ a. a.refusal) e) ∙ own_refusal q)
+
+pub one_result : OneResult
+one_result t r s a b = one_answer r s (one_read t (answer_of r) (answer_of s) a b)

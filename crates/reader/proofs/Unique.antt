@@ -7,20 +7,22 @@ use lib.ListN.{length, get_or, drop, take}
 use lib.Seq.{take-append_seam}
 use lib.Dec.{T, T_prop}
 use borrow.Author.Tests.{eqb-false}
+use Rattle.std.specs.List.{prefix_len}
 use Rattle.meaning.specs.Bytes.{Bytes, ascii}
 use Rattle.meaning.specs.Question.{Question, Conj, OneUnit, Steps, Rest, Begin, Sign, Move, Name, Quoted, is_name_byte, is_quotable, is_name, is_quoted, all, write_quoted}
 use Rattle.meaning.specs.Question.{write_question, write_unit, write_steps, write_rest}
-use Rattle.reader.specs.inner.Reading.{fronts, span, Path, write_path, Form, TreeOf, text_of, PathEnds, QuestionEnds, Follows, Chain, whole, item, sign, single, joined, grown, write_chain}
+use Rattle.reader.specs.inner.Reading.{fronts, Path, write_path, Form, TreeOf, text_of, PathEnds, QuestionEnds, Follows, whole, item, sign}
+use Rattle.reader.specs.declared.grammar.Chain.{Chain}
 use Rattle.reader.specs.Promise.{WriteOnce}
 use Rattle.reader.proofs.Heads.{span_all, name_all, rest_head, step_class, StepKind, StepView, step_view, PathView, path_view, UnitKind, unit_class_of, UnitView, unit_view, RestKind, rest_class_of, RestView, rest_view, class_of_view, view_class, begin_class, move_class}
-use Rattle.reader.proofs.Chains.{Spine, spine_question, spine_conj, next, heads, grown_text, single_text}
+use Rattle.reader.proofs.Chains.{single, joined, grown, write_chain, Spine, spine_question, spine_conj, next, heads, grown_text, single_text}
 use Rattle.reader.proofs.Words.{quoted_all}
 use Rattle.reader.proofs.Units.{by_paren, by_bracket}
 
 -- WORDS that are followed by a byte which does not go on with them are one
 same_word : (p : ℕ → Bool) (w v x y : Bytes) → T (all p w) → T (all p v) → p (get_or x 0 0) ≡ false → p (get_or y 0 0) ≡ false → w ++ x ≡ v ++ y → (w ≡ v) × (x ≡ y)
 same_word p w v x y i j f g e =
-    let n : length w ≡ length v = sym (span_all p w x i f) ∙ ap (span p) e ∙ span_all p v y j g in
+    let n : length w ≡ length v = sym (span_all p w x i f) ∙ ap (prefix_len p) e ∙ span_all p v y j g in
     let h : w ≡ v = sym (take-append_seam w x) ∙ ap (λ k. take k (w ++ x)) n ∙ ap (take (length v)) e ∙ take-append_seam v y in
     (h, append_cancel_left w x y (e ∙ ap (λ l. l ++ y) (sym h)))
 
@@ -56,8 +58,8 @@ record Items (c : Chain) (q : TreeOf (whole c)) : Type 0 where
 
 -- a byte that the whole may be followed by is no sign
 ends : (c : Chain) (b : ℕ) → Follows (whole c) b → b ≡ sign c → ⊥
-ends Chain.ors b f e = f.sign e
-ends Chain.ands b f e = f.sign e
+ends Chain.Ors b f e = f.sign e
+ends Chain.Ands b f e = f.sign e
 
 same_more : (c : Chain) (is js : List (TreeOf (item c))) → AllSame c is → (z y : Bytes) → Follows (whole c) (get_or z 0 0) → Follows (whole c) (get_or y 0 0) → write_chain c is ++ z ≡ write_chain c js ++ y → (is ≡ js) × (z ≡ y)
 unfolding write_chain
@@ -187,17 +189,17 @@ by_sign Sign.slashes s z y f g ih d e = slashes_same z y f g s ih d (other_rest 
 mutual
   unfolding grown
 
-  items_question : (q : Question) → Items Chain.ors q
-  items_question (Question.conj i) = record { spine = record { first = i; more = []; is = refl }; first = same_whole Chain.ands i (items_conj i) spine_conj; more = tt }
-  items_question (Question.either q i) = more_items Chain.ors q i (items_question q) (same_whole Chain.ands i (items_conj i) spine_conj)
+  items_question : (q : Question) → Items Chain.Ors q
+  items_question (Question.conj i) = record { spine = record { first = i; more = []; is = refl }; first = same_whole Chain.Ands i (items_conj i) spine_conj; more = tt }
+  items_question (Question.either q i) = more_items Chain.Ors q i (items_question q) (same_whole Chain.Ands i (items_conj i) spine_conj)
 
-  items_conj : (q : Conj) → Items Chain.ands q
+  items_conj : (q : Conj) → Items Chain.Ands q
   items_conj (Conj.unit i) = record { spine = record { first = i; more = []; is = refl }; first = λ d z y f g e. same_unit i d z y f g e; more = tt }
-  items_conj (Conj.both q i) = more_items Chain.ands q i (items_conj q) (λ d z y f g e. same_unit i d z y f g e)
+  items_conj (Conj.both q i) = more_items Chain.Ands q i (items_conj q) (λ d z y f g e. same_unit i d z y f g e)
 
   same_unit : (p : OneUnit) → Same Form.unit p
   same_unit (OneUnit.deny u) d z y f g e = deny_same z y f g u (λ d z y f g e. same_unit u d z y f g e) d (other_unit d _ y UnitKind.deny g e (class_of_view (OneUnit.deny u) z f UnitKind.deny (UnitView.deny u))) e
-  same_unit (OneUnit.group q) d z y f g e = group_same z y f g q (same_whole Chain.ors q (items_question q) spine_question) d (other_unit d _ y UnitKind.group g e (class_of_view (OneUnit.group q) z f UnitKind.group (UnitView.group q))) e
+  same_unit (OneUnit.group q) d z y f g e = group_same z y f g q (same_whole Chain.Ors q (items_question q) spine_question) d (other_unit d _ y UnitKind.group g e (class_of_view (OneUnit.group q) z f UnitKind.group (UnitView.group q))) e
   same_unit (OneUnit.label w) d z y f g e = label_same z y f g w d (other_unit d _ y UnitKind.label g e (class_of_view (OneUnit.label w) z f UnitKind.label (UnitView.label w))) e
   same_unit (OneUnit.text w) d z y f g e = text_same z y f g w d (other_unit d _ y UnitKind.text g e (class_of_view (OneUnit.text w) z f UnitKind.text (UnitView.text w))) e
   same_unit (OneUnit.path b s) d z y f g e = path_same z y f g b s (λ d z y f g e. by_begin b s z y f g (λ d z y f g e. same_steps s d z y f g e) d e) d (other_unit d _ y UnitKind.path g e (class_of_view (OneUnit.path b s) z f UnitKind.path (UnitView.path b s))) e
@@ -208,11 +210,11 @@ mutual
   same_rest : (r : Rest) → Same Form.rest r
   same_rest Rest.end d z y f g e = end_same z y f g d (other_rest d _ y RestKind.end g e (view_class Rest.end z f RestKind.end RestView.end)) e
   same_rest (Rest.ends w) d z y f g e = ends_same z y f g w d (other_rest d _ y RestKind.ends g e (view_class (Rest.ends w) z f RestKind.ends (RestView.ends w))) e
-  same_rest (Rest.bracket q r) d z y f g e = bracket_same z y f g q r (same_whole Chain.ors q (items_question q) spine_question) (λ d z y f g e. same_rest r d z y f g e) d (other_rest d _ y RestKind.bracket g e (view_class (Rest.bracket q r) z f RestKind.bracket (RestView.bracket q r))) e
+  same_rest (Rest.bracket q r) d z y f g e = bracket_same z y f g q r (same_whole Chain.Ors q (items_question q) spine_question) (λ d z y f g e. same_rest r d z y f g e) d (other_rest d _ y RestKind.bracket g e (view_class (Rest.bracket q r) z f RestKind.bracket (RestView.bracket q r))) e
   same_rest (Rest.onward s u) d z y f g e = by_sign s u z y f g (λ d z y f g e. same_steps u d z y f g e) d e
 
 pub same_question : (q : Question) → Same Form.question q
-same_question q = same_whole Chain.ors q (items_question q) spine_question
+same_question q = same_whole Chain.Ors q (items_question q) spine_question
 
 pub by_nothing : QuestionEnds 0
 by_nothing = record { conj = record { path = record { bracket = eqb-false 0 91 refl; slash = eqb-false 0 47 refl; paren = eqb-false 0 40 refl; name = refl }; sign = eqb-false 0 38 refl }; sign = eqb-false 0 124 refl }

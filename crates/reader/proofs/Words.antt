@@ -1,17 +1,21 @@
 -- Names and quoted words, as far as they go.
 use Prim.Native.Nat.{ℕ, suc, ◌+◌, ◌≤◌, ◌<◌}
 use native.Mathlib.Omega.{arith}
+use native.Mathlib.Numerals.{one-add}
 use mathlib.Core.Path.{◌≡◌, refl, sym, ap, ◌∙◌, subst}
 use mathlib.Core.Bool.{Bool, true, false, cond, ◌&&◌, false≢true}
+use mathlib.Core.Logic.{◌⊎◌, inl, inr}
 use mathlib.Core.List.{[], ◌∷◌, ◌++◌, append_assoc}
 use lib.ListN.{length, get_or, drop, take, take-append-drop}
-use lib.Seq.{drop-drop, length-take-le}
+use Rattle.std.specs.List.{prefix_len}
+use Rattle.std.proofs.lemmas.List.Folds.{length-prefix_len}
+use lib.Seq.{drop-drop}
 use lib.Dec.{T, leb, le→leb, leb→le, lit<}
 use Rattle.meaning.specs.Bytes.{Bytes}
 use Rattle.meaning.specs.Question.{Quoted, is_letter, is_name_byte, is_quotable, is_name, is_quoted, all, write_quoted}
-use Rattle.reader.specs.declared.State.{State}
-use Rattle.reader.specs.inner.Reading.{added, moved, failed, byte_at, span, Quotes}
-use Rattle.reader.proofs.Text.{inside, head_at, rest_at, cons_at, span_fits}
+use Rattle.reader.specs.declared.state.State.{State}
+use Rattle.reader.specs.inner.Reading.{added, moved, byte_at, Worded}
+use Rattle.reader.proofs.Text.{inside, head_at, rest_at, cons_at}
 use Rattle.reader.proofs.Heads.{both, span_all}
 
 and_t : (a b : Bool) → T a → T b → T (a && b)
@@ -19,26 +23,23 @@ and_t true b x y = y
 and_t false b x y = absurd x
 
 -- the bytes that pass are a word of bytes that pass
-pub span_front : (p : ℕ → Bool) (x : Bytes) → T (all p (take (span p x) x))
-unfolding span all
+pub span_front : (p : ℕ → Bool) (x : Bytes) → T (all p (take (prefix_len p x) x))
+unfolding all
 span_front p [] = tt
 span_front p (b ∷ x) = go (p b) refl (span_front p x)
   where
-    go : (c : Bool) → p b ≡ c → T (all p (take (span p x) x)) → T (all p (take (cond c (suc (span p x)) 0) (b ∷ x)))
-    go true e h = rw e h
+    go : (c : Bool) → p b ≡ c → T (all p (take (prefix_len p x) x)) → T (all p (take (cond c (1 + prefix_len p x) 0) (b ∷ x)))
+    go true e h = rw (one-add, e) h
     go false e h = tt
 
-pub span_length : (p : ℕ → Bool) (x : Bytes) → length (take (span p x) x) ≡ span p x
-span_length p x = length-take-le (span p x) x (span_fits p x)
-
-pub name_word : (x : Bytes) → is_letter (get_or x 0 0) ≡ true → span is_name_byte x ≤ 64 → T (is_name (take (span is_name_byte x) x))
-unfolding span is_name
+pub name_word : (x : Bytes) → is_letter (get_or x 0 0) ≡ true → prefix_len is_name_byte x ≤ 64 → T (is_name (take (prefix_len is_name_byte x) x))
+unfolding is_name
 name_word [] e h = absurd (false≢true e)
 name_word (b ∷ x) e h = go (is_name_byte b) (rw e) h
   where
-    go : (c : Bool) → c ≡ true → cond c (suc (span is_name_byte x)) 0 ≤ 64 → T (is_name (take (cond c (suc (span is_name_byte x)) 0) (b ∷ x)))
-    go true i k = and_t (is_letter b && all is_name_byte (take (span is_name_byte x) x)) (leb (suc (length (take (span is_name_byte x) x))) 64) (and_t (is_letter b) (all is_name_byte (take (span is_name_byte x) x)) (subst T (sym e) tt) (span_front is_name_byte x))
-        (le→leb (suc (length (take (span is_name_byte x) x))) 64 (omega (arith, span_length is_name_byte x)))
+    go : (c : Bool) → c ≡ true → cond c (1 + prefix_len is_name_byte x) 0 ≤ 64 → T (is_name (take (cond c (1 + prefix_len is_name_byte x) 0) (b ∷ x)))
+    go true i k = rw one-add (and_t (is_letter b && all is_name_byte (take (prefix_len is_name_byte x) x)) (leb (suc (length (take (prefix_len is_name_byte x) x))) 64) (and_t (is_letter b) (all is_name_byte (take (prefix_len is_name_byte x) x)) (subst T (sym e) tt) (span_front is_name_byte x))
+        (le→leb (suc (length (take (prefix_len is_name_byte x) x))) 64 (omega (arith, length-prefix_len is_name_byte x))))
     go false i k = absurd (false≢true i)
 
 pub name_size_lem : (w : Bytes) → T (is_name w) → length w ≤ 64
@@ -70,7 +71,7 @@ module _ (t : Bytes) (s : State) (kind : ℕ) where
   start = s.at + 1
 
   abbrev size : ℕ
-  size = span is_quotable (drop start t)
+  size = prefix_len is_quotable (drop start t)
 
   -- a word that stands there is found
   found : (w : Quoted) (z : Bytes) → drop s.at t ≡ write_quoted w ++ z → (byte_at t s.at ≡ 34) × (size ≡ length w.bytes) × (byte_at t (start + size) ≡ 34)
@@ -80,37 +81,28 @@ module _ (t : Bytes) (s : State) (kind : ℕ) where
       e' = rest_at t s.at (34 ∷ []) _ e ∙ append_assoc w.bytes (34 ∷ []) z
 
       n : size ≡ length w.bytes
-      n = ap (span is_quotable) e' ∙ span_all is_quotable w.bytes (34 ∷ z) (quoted_all w.bytes w.well_quoted) refl
+      n = ap (prefix_len is_quotable) e' ∙ span_all is_quotable w.bytes (34 ∷ z) (quoted_all w.bytes w.well_quoted) refl
 
-  no_quote : s.at ≤ length t → ((w : Quoted) (z : Bytes) → drop s.at t ≡ write_quoted w ++ z → ⊥) → Quotes t s (failed s) kind
-  no_quote h n = record {
-    goes = record { onward = omega arith; inside = h; few = omega arith; level = refl };
-    sound = λ ok. absurd (false≢true ok);
-    complete = λ w z e. absurd (n w z e);
-  }
+  pub no_word : (64 < size) ⊎ (byte_at t (start + size) ≡ 34 → ⊥) → (w : Quoted) (z : Bytes) → drop s.at t ≡ write_quoted w ++ z → ⊥
+  no_word (inl h) w z e = omega (arith, (found w z e).1, quoted_size w.bytes w.well_quoted)
+  no_word (inr n) w z e = n (found w z e).2
 
-  pub no_opening : s.at ≤ length t → (byte_at t s.at ≡ 34 → ⊥) → Quotes t s (failed s) kind
-  no_opening h n = no_quote h (λ w z e. n (found w z e).0)
-
-  pub no_closing : s.at ≤ length t → (byte_at t (start + size) ≡ 34 → ⊥) → Quotes t s (failed s) kind
-  no_closing h n = no_quote h (λ w z e. n (found w z e).2)
-
-  pub too_long : s.at ≤ length t → 64 < size → Quotes t s (failed s) kind
-  too_long h n = no_quote h (λ w z e. omega (arith, (found w z e).1, quoted_size w.bytes w.well_quoted))
-
-  pub quoted_read : byte_at t s.at ≡ 34 → byte_at t (start + size) ≡ 34 → size ≤ 64 → Quotes t s (added (moved s (start + size + 1)) kind start size) kind
+  pub quoted_read : byte_at t s.at ≡ 34 → byte_at t (start + size) ≡ 34 → size ≤ 64 → Worded t s (added (moved s (start + size + 1)) kind start size) kind s.list.count
   unfolding is_quoted
   quoted_read b b' h =
       let i : s.at < length t = inside t s.at 34 b (lit< tt) in
       let j : start + size < length t = inside t (start + size) 34 b' (lit< tt) in
       record {
-        goes = record { onward = omega arith; inside = omega arith; few = omega arith; level = refl };
-        sound = λ ok. (word, ap (λ n. added (moved s (start + n + 1)) kind start n) (sym (span_length is_quotable (drop start t))), text);
-        complete = λ w z e. ap (λ n. added (moved s (start + n + 1)) kind start n) (found w z e).1;
+        goes = record { onward = omega arith; inside = omega arith; few = omega arith; level = refl; same = refl };
+        word = word;
+        text = text;
+        is = ap (λ n. added (moved s (start + n + 1)) kind start n) (sym (length-prefix_len is_quotable (drop start t)));
+        top = refl;
+        alone = λ w z e. ap (λ n. added (moved s (start + n + 1)) kind start n) (found w z e).1;
       }
     where
       word : Quoted
-      word = record { bytes = take size (drop start t); well_quoted = and_t (all is_quotable (take size (drop start t))) (leb (length (take size (drop start t))) 64) (span_front is_quotable (drop start t)) (le→leb (length (take size (drop start t))) 64 (omega (arith, span_length is_quotable (drop start t)))) }
+      word = record { bytes = take size (drop start t); well_quoted = and_t (all is_quotable (take size (drop start t))) (leb (length (take size (drop start t))) 64) (span_front is_quotable (drop start t)) (le→leb (length (take size (drop start t))) 64 (omega (arith, length-prefix_len is_quotable (drop start t)))) }
 
       text : drop s.at t ≡ write_quoted word ++ drop (start + size + 1) t
       text = cons_at t s.at 34 b (lit< tt) ∙ ap (λ x. 34 ∷ x) (word_at t start size ∙ ap (λ x. word.bytes ++ x) (cons_at t (start + size) 34 b' (lit< tt)) ∙ sym (append_assoc word.bytes (34 ∷ []) (drop (start + size + 1) t)))

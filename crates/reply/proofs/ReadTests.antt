@@ -9,20 +9,21 @@ use Rattle.meaning.proofs.Says.{says_iff, says_and}
 use Rattle.reply.specs.WellFormed.{vars, Result, Operand, Operands, WellFormed, Fits}
 use Rattle.reply.specs.inner.Decode.{is_result, is_operand, are_operands, well_formed, fits}
 use Rattle.reply.specs.inner.Promise.{ReadTests}
-use Rattle.reply.proofs.Tests.{says_lt, says_le, says_eq, says_ne, says_every}
+use Rattle.reply.proofs.Tests.{says_ne, says_every}
+use Rattle.meaning.proofs.Numbers.{says_ltb, says_leb, says_eqb}
 
 module _ (n m : ℕ) where
   result : (r : Ref) → Says (Result n m r) (is_result n m r)
   result Ref.low = aye tt
   result Ref.high = aye tt
-  result (Ref.var x) = says_lt x n
-  result (Ref.step i) = says_lt i m
+  result (Ref.var x) = says_ltb x n
+  result (Ref.step i) = says_ltb i m
 
   operand : (r : Ref) → Says (Operand n m r) (is_operand n m r)
   operand Ref.low = nay (λ h. h)
   operand Ref.high = nay (λ h. h)
-  operand (Ref.var x) = says_lt x n
-  operand (Ref.step i) = says_lt i m
+  operand (Ref.var x) = says_ltb x n
+  operand (Ref.step i) = says_ltb i m
 
   operands : (t : Step) → Says (Operands n m t) (are_operands n m t)
   operands (Step.and a b) = says_and (operand a) (operand b)
@@ -56,13 +57,13 @@ module _ (r : Reply) where
   clauses : Says Clauses (well_formed r)
   unfolding well_formed
   clauses =
-      says_and (says_lt 0 r.number) (says_and (says_lt r.number (2 ^ 32)) (says_and (says_lt r.fragment 32) (says_and (says_lt 0 r.entries) (says_and (says_le r.entries 32)
-      (says_and (says_eq (length r.v) r.entries) (says_and (says_eq (length r.d) r.entries) (says_and (says_lt (length r.ins) 32)
-      (says_and (says_every (λ i. (r.fragment < get_or r.ins i 0) × (get_or r.ins i 0 < 32)) _ (length r.ins) (λ i l. says_and (says_lt r.fragment (get_or r.ins i 0)) (says_lt (get_or r.ins i 0) 32)))
+      says_and (says_ltb 0 r.number) (says_and (says_ltb r.number (2 ^ 32)) (says_and (says_ltb r.fragment 32) (says_and (says_ltb 0 r.entries) (says_and (says_leb r.entries 32)
+      (says_and (says_eqb (length r.v) r.entries) (says_and (says_eqb (length r.d) r.entries) (says_and (says_ltb (length r.ins) 32)
+      (says_and (says_every (λ i. (r.fragment < get_or r.ins i 0) × (get_or r.ins i 0 < 32)) _ (length r.ins) (λ i l. says_and (says_ltb r.fragment (get_or r.ins i 0)) (says_ltb (get_or r.ins i 0) 32)))
       (says_and
       (says_every (λ i. (j : ℕ) → j < i → get_or r.ins j 0 ≡ get_or r.ins i 0 → ⊥) _ (length r.ins)
       (λ i l. says_every (λ j. get_or r.ins j 0 ≡ get_or r.ins i 0 → ⊥) _ i (λ j d. says_ne (get_or r.ins j 0) (get_or r.ins i 0))))
-      (says_and (says_le m 4096)
+      (says_and (says_leb m 4096)
       (says_and (says_every (λ i. Operands n i (get_or r.steps i (Step.not Ref.low))) _ m (λ i l. operands n i (get_or r.steps i (Step.not Ref.low))))
       (says_and (says_every (λ e. Result n m (get_or r.v e Ref.low)) _ r.entries (λ e l. result n m (get_or r.v e Ref.low)))
       (says_every (λ e. Result n m (get_or r.d e Ref.low)) _ r.entries (λ e l. result n m (get_or r.d e Ref.low)))))))))))))))
@@ -98,7 +99,7 @@ module _ (r : Reply) where
   unfolding fits
   says_fits w =
       says_iff (λ (h : (vars r.entries (length r.ins) ≤ 2 ^ w) × (length r.steps ≤ 2 ^ w)). record { vars_fit = h.0; steps_fit = h.1 }) (λ g. (g.vars_fit, g.steps_fit))
-      (says_and (says_le (vars r.entries (length r.ins)) (2 ^ w)) (says_le (length r.steps) (2 ^ w)))
+      (says_and (says_leb (vars r.entries (length r.ins)) (2 ^ w)) (says_leb (length r.steps) (2 ^ w)))
 
 pub read_tests : ReadTests
 read_tests w r = (says_formed r, says_fits r w)

@@ -1,150 +1,183 @@
 // The check: whether any bytes at all are a reply. Each field is read once, in order.
-ghost use Rattle.std.specs.Prelude.{◌+◌, ◌*◌, ◌^◌, ◌≤◌, ◌<◌, length};
+ghost use Rattle.std.specs.Prelude.{◌≡◌, ◌+◌, ◌*◌, ◌^◌, ◌≤◌, ◌<◌, length};
 ghost use Rattle.meaning.specs.Says.{Says};
-ghost use Rattle.reply.specs.Read.{Checks};
-ghost use Rattle.reply.specs.inner.Decode.{ref_width, step_width, ins_to};
-ghost use Rattle.reply.specs.inner.Checked.{RefOk, OperandOk, StepOk, RefGood, StepGood, InGood};
+ghost use Rattle.reply.specs.Read.{Checks, check_number};
+ghost use Rattle.reply.specs.inner.Decode.{ref_width, step_width, ins_to, end_of};
+ghost use Rattle.reply.specs.inner.Fields.{kind_code, op_code, HeadIs};
+ghost use Rattle.reply.specs.inner.Checked.{RefOk, OperandOk, StepOk, RefGood, StepGood, InGood, Checked, SizesOk};
 
-use crate::{HEAD_TO, StepField, header, take_in, take_ref, take_step};
+use crate::{
+    HEAD_TO, Head, Op, RefKind, Reference, StepField, header, take_in, take_ref, take_step,
+};
 use bits::Cursor;
 
-fn ref_ok(kind: u32, number: usize, vars: usize, steps: usize) -> bool
-    requires { kind < 4 }
-    ensures { Says (RefOk vars steps kind number) result }
-{
-    if kind == 2 {
-        return number < vars;
+// The bytes are not a reply.
+#[derive(Clone, Copy, Debug, PartialEq, Eq)]
+pub struct NotAReply;
+
+// The refusal's number.
+impl From<NotAReply> for u8 {
+    ghost from_gives = { λ _ number. number ≡ 13 };
+
+    fn from(_refusal: NotAReply) -> u8 {
+        13
     }
-    if kind == 3 {
-        return number < steps;
-    }
-    number == 0
 }
 
-fn operand_ok(kind: u32, number: usize, vars: usize, steps: usize) -> bool
-    requires { kind < 4 }
-    ensures { Says (OperandOk vars steps kind number) result }
-{
-    if kind < 2 {
-        return false;
-    }
-    ref_ok(kind, number, vars, steps)
+// The most bytes that a reply has.
+const MOST_BYTES: usize = 15_499;
+
+const MOST_STEPS: usize = 4096;
+
+// How many variables and steps a reference may name.
+#[derive(Clone, Copy)]
+struct Counts {
+    vars: usize,
+    steps: usize,
 }
 
-fn step_ok(t: StepField, vars: usize, steps: usize) -> bool
-    requires { (t.kind1 < 4) × (t.kind2 < 4) }
-    ensures { Says (StepOk vars steps t.op t.kind1 t.number1 t.kind2 t.number2) result }
-{
-    let a = operand_ok(t.kind1, t.number1, vars, steps);
-    let b = operand_ok(t.kind2, t.number2, vars, steps);
-    if !a {
-        return false;
+impl Reference {
+    // Whether it may stand as a result: a constant with number 0, an existing variable or an existing step.
+    fn is_result(self, counts: Counts) -> bool
+        ensures { Says (RefOk counts.vars counts.steps (kind_code self.kind) self.number) result }
+    {
+        match self.kind {
+            RefKind::Low | RefKind::High => self.number == 0,
+            RefKind::Var => self.number < counts.vars,
+            RefKind::Step => self.number < counts.steps,
+        }
     }
-    if t.op < 2 {
-        return b;
+
+    // Whether it may stand as an operand: as a result, but no constant.
+    fn is_operand(self, counts: Counts) -> bool
+        ensures { Says (OperandOk counts.vars counts.steps (kind_code self.kind) self.number) result }
+    {
+        matches!(self.kind, RefKind::Var | RefKind::Step) && self.is_result(counts)
     }
-    if t.op != 2 {
-        return false;
+
+    // Whether its bits are all zeros, as the second reference of not.
+    fn is_zero(self) -> bool
+        ensures { Says ((kind_code self.kind ≡ 0) × (self.number ≡ 0)) result }
+    {
+        self == Reference {
+            kind: RefKind::Low,
+            number: 0,
+        }
     }
-    if t.kind2 != 0 {
-        return false;
-    }
-    t.number2 == 0
 }
 
+impl StepField {
+    // Whether it is a step's code, with references that may stand where it has them.
+    fn is_good(self, counts: Counts) -> bool
+        ensures { Says (StepOk counts.vars counts.steps (op_code self.op) (kind_code self.left.kind) self.left.number (kind_code self.right.kind) self.right.number) result }
+    {
+        let Some(op) = self.op else {
+            return false;
+        };
+        self.left.is_operand(counts)
+            && match op {
+                Op::And | Op::Or => self.right.is_operand(counts),
+                Op::Not => self.right.is_zero(),
+            }
+    }
+}
+
+// Whether each stand-in's fragment exceeds the reply's own and no two are the same.
 fn ins_ok(s: &[u8], fragment: u32, count: usize) -> bool
     requires { (ins_to count ≤ 8 * length s.now) × (ins_to count < 2 ^ 64) }
     ensures { Says ((i : _) → i < count → InGood s.now fragment i) result }
 {
-    let mut met = [0u8; 32];
-    let mut i = 0;
-    while i < count {
+    let mut met = [false; 32];
+    for i in 0..count {
         let x = take_in(s, i);
-        if x <= fragment as usize {
+        if x <= fragment as usize || met[x] {
             return false;
         }
-        if met[x] != 0 {
-            return false;
-        }
-        met[x] = 1;
-        i += 1;
+        met[x] = true;
     }
     true
+}
+
+// Whether the step at bit `at`, the i-th of the list, may stand there.
+fn step_ok(s: &[u8], w: usize, at: usize, vars: usize, i: usize) -> bool
+    requires { (at + step_width w ≤ 8 * length s.now) × (at + step_width w < 2 ^ 64) × (w ≤ 32) }
+    ensures { Says (StepGood w s.now vars i at) result }
+{
+    take_step(Cursor { at }, s, w).is_good(Counts { vars, steps: i })
 }
 
 fn steps_ok(s: &[u8], w: usize, at: usize, count: usize, vars: usize) -> bool
     requires { (at + step_width w * count ≤ 8 * length s.now) × (at + step_width w * count < 2 ^ 64) × (w ≤ 32) }
     ensures { Says ((i : _) → i < count → StepGood w s.now vars i (at + step_width w * i)) result }
 {
-    let wide = 2 * w + 6;
-    let mut i = 0;
-    let mut here = at;
-    while i < count {
-        let t = take_step(Cursor { at: here }, s, w);
-        if !step_ok(t, vars, i) {
-            return false;
-        }
-        here += wide;
-        i += 1;
-    }
-    true
+    let ref_width = 2 + w;
+    let step_width = 2 + (ref_width + ref_width);
+    (0..count).all(|i| step_ok(s, w, at + step_width * i, vars, i))
 }
 
-fn refs_ok(s: &[u8], w: usize, at: usize, count: usize, vars: usize, steps: usize) -> bool
+// Whether the reference at bit `at` may stand as a result.
+fn ref_ok(s: &[u8], w: usize, at: usize, counts: Counts) -> bool
+    requires { (at + ref_width w ≤ 8 * length s.now) × (at + ref_width w < 2 ^ 64) × (w ≤ 32) }
+    ensures { Says (RefGood w s.now counts.vars counts.steps at) result }
+{
+    take_ref(Cursor { at }, s, w).value.is_result(counts)
+}
+
+// The twin of `steps_ok`; one function for both would take the width and the test as parameters, and be no plainer.
+fn refs_ok(s: &[u8], w: usize, at: usize, count: usize, counts: Counts) -> bool
     requires { (at + ref_width w * count ≤ 8 * length s.now) × (at + ref_width w * count < 2 ^ 64) × (w ≤ 32) }
-    ensures { Says ((e : _) → e < count → RefGood w s.now vars steps (at + ref_width w * e)) result }
+    ensures { Says ((e : _) → e < count → RefGood w s.now counts.vars counts.steps (at + ref_width w * e)) result }
 {
-    let mut e = 0;
-    let mut here = at;
-    while e < count {
-        let x = take_ref(Cursor { at: here }, s, w);
-        if !ref_ok(x.kind, x.number, vars, steps) {
-            return false;
-        }
-        let next = x.next;
-        here = next.at;
-        e += 1;
-    }
-    true
+    let ref_width = 2 + w;
+    (0..count).all(|e| ref_ok(s, w, at + ref_width * e, counts))
 }
 
-// 0 if the bytes are a reply, else 13.
-pub fn reply_check(bytes: &[u8]) -> u8
-    ensures { Checks bytes.now result }
+// Where the last field of a reply with this header ends.
+fn end_of(h: Head) -> usize
+    requires { (h.entries ≤ 32) × (h.ins < 32) × (h.steps < 8192) }
+    ensures { result ≡ end_of 12 h.ins h.steps h.entries }
 {
+    HEAD_TO + 5 * h.ins + 30 * h.steps + 28 * h.entries
+}
+
+// Whether this many bytes are what the header says, and its numbers are allowed.
+fn sizes_ok(h: Head, size: usize) -> bool
+    requires { (h.entries ≤ 32) × (h.ins < 32) × (h.steps < 8192) }
+    ensures { Says (SizesOk h size) result }
+{
+    if h.number == 0 || h.steps > MOST_STEPS {
+        return false;
+    }
+    (end_of(h) + 7) / 8 == size
+}
+
+// Whether bytes with this header are a reply.
+fn is_reply(bytes: &[u8], h: Head) -> bool
+    requires { (8 ≤ length bytes.now) × (length bytes.now ≤ 15499) × HeadIs bytes.now h }
+    ensures { Says (Checked 12 bytes.now) result }
+{
+    let counts = Counts {
+        vars: 2 * h.entries * h.ins,
+        steps: h.steps,
+    };
+    let steps_at = HEAD_TO + 5 * h.ins;
+    let results_at = steps_at + 30 * h.steps;
+    let end = end_of(h);
     let size = bytes.len();
-    if size < 8 {
-        return 13;
+    sizes_ok(h, size)
+        && ins_ok(bytes, h.fragment, h.ins)
+        && steps_ok(bytes, 12, steps_at, h.steps, counts.vars)
+        && refs_ok(bytes, 12, results_at, 2 * h.entries, counts)
+        && Cursor { at: end }.blank(bytes, 8 * size)
+}
+
+// Whether the bytes are a reply.
+pub fn reply_check(bytes: &[u8]) -> Result<(), NotAReply>
+    ensures { Checks bytes.now (check_number result) }
+{
+    if (8..=MOST_BYTES).contains(&bytes.len()) && is_reply(bytes, header(bytes)) {
+        Ok(())
+    } else {
+        Err(NotAReply)
     }
-    if 15499 < size {
-        return 13;
-    }
-    let h = header(bytes);
-    let k = h.ins;
-    let m = h.steps;
-    let n = h.entries;
-    if h.number == 0 {
-        return 13;
-    }
-    if 4096 < m {
-        return 13;
-    }
-    let vars = 2 * n * k;
-    let a = HEAD_TO + 5 * k;
-    let b = a + 30 * m;
-    let end = b + 28 * n;
-    if (end + 7) / 8 != size {
-        return 13;
-    }
-    if !ins_ok(bytes, h.fragment, k) {
-        return 13;
-    }
-    if !steps_ok(bytes, 12, a, m, vars) {
-        return 13;
-    }
-    if !refs_ok(bytes, 12, b, 2 * n, vars, m) {
-        return 13;
-    }
-    let c = Cursor { at: end };
-    if c.blank(bytes, 8 * size) { 0 } else { 13 }
 }

@@ -4,9 +4,9 @@
 
 pub mod judging;
 
-ghost use Rattle.std.specs.Prelude.{◌+◌, ◌*◌, ◌^◌, ◌≤◌, ◌<◌, length};
+ghost use Rattle.std.specs.Prelude.{◌≡◌, ◌+◌, ◌*◌, ◌^◌, ◌≤◌, ◌<◌, length};
 ghost use Rattle.reply.specs.inner.Decode.{ref_width, step_width, ins_to};
-ghost use Rattle.reply.specs.inner.Fields.{HeadIs, InIs, RefIs, StepIs};
+ghost use Rattle.reply.specs.inner.Fields.{kind_code, op_code, HeadIs, InIs, RefIs, StepIs};
 
 use bits::Cursor;
 
@@ -23,22 +23,69 @@ pub struct Head {
     pub steps: usize,
 }
 
-// A reference, and the place after it.
+// What a reference is to: false, true, a variable or a step, by its code.
+#[derive(Clone, Copy, Debug, PartialEq, Eq)]
+pub enum RefKind {
+    Low = 0,
+    High = 1,
+    Var = 2,
+    Step = 3,
+}
+
+// A step's operation, by its code.
+#[derive(Clone, Copy, Debug, PartialEq, Eq)]
+pub enum Op {
+    And = 0,
+    Or = 1,
+    Not = 2,
+}
+
+// A reference as its bits say it: the number names the variable or the step, and is 0 for a constant of a well-formed reply.
+#[derive(Clone, Copy, Debug, PartialEq, Eq)]
+pub struct Reference {
+    pub kind: RefKind,
+    pub number: usize,
+}
+
+// A reference that was read, and the place after it.
 #[derive(Clone, Copy)]
 pub struct RefField {
-    pub kind: u32,
-    pub number: usize,
+    pub value: Reference,
     pub next: Cursor,
 }
 
-// A step: its operation, and the kinds and numbers of its references.
-#[derive(Clone, Copy)]
+// A step: its operation, none for the code that names none, and its references.
+#[derive(Clone, Copy, Debug, PartialEq, Eq)]
 pub struct StepField {
-    pub op: u32,
-    pub kind1: u32,
-    pub number1: usize,
-    pub kind2: u32,
-    pub number2: usize,
+    pub op: Option<Op>,
+    pub left: Reference,
+    pub right: Reference,
+}
+
+// The kind with this code. Two bits always name one, so that the error of a `TryFrom` would be one that no call meets.
+fn kind_of(code: u32) -> RefKind
+    requires { code < 4 }
+    ensures { kind_code result ≡ code }
+{
+    match code {
+        0 => RefKind::Low,
+        1 => RefKind::High,
+        2 => RefKind::Var,
+        _ => RefKind::Step,
+    }
+}
+
+// The operation with this code, if it has one: an `Option`, since a step's code may well name none.
+fn op_of(code: u32) -> Option<Op>
+    requires { code < 4 }
+    ensures { op_code result ≡ code }
+{
+    match code {
+        0 => Some(Op::And),
+        1 => Some(Op::Or),
+        2 => Some(Op::Not),
+        _ => None,
+    }
 }
 
 pub fn header(s: &[u8]) -> Head
@@ -64,10 +111,8 @@ pub fn take_in(s: &[u8], i: usize) -> usize
     requires { (ins_to i + 5 ≤ 8 * length s.now) × (ins_to i + 5 < 2 ^ 64) }
     ensures { InIs s.now i result }
 {
-    let x = Cursor {
-        at: HEAD_TO + 5 * i,
-    }
-    .take(s, 5);
+    let here = HEAD_TO + 5 * i;
+    let x = Cursor { at: here }.take(s, 5);
     x.value as usize
 }
 
@@ -77,11 +122,12 @@ pub fn take_ref(c: Cursor, s: &[u8], w: usize) -> RefField
 {
     let k = c.take(s, 2);
     let x = k.next.take(s, w);
-    let next = x.next;
     RefField {
-        kind: k.value,
-        number: x.value as usize,
-        next: next,
+        value: Reference {
+            kind: kind_of(k.value),
+            number: x.value as usize,
+        },
+        next: x.next,
     }
 }
 
@@ -93,10 +139,8 @@ pub fn take_step(c: Cursor, s: &[u8], w: usize) -> StepField
     let a = take_ref(k.next, s, w);
     let b = take_ref(a.next, s, w);
     StepField {
-        op: k.value,
-        kind1: a.kind,
-        number1: a.number,
-        kind2: b.kind,
-        number2: b.number,
+        op: op_of(k.value),
+        left: a.value,
+        right: b.value,
     }
 }

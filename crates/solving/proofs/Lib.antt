@@ -2,4 +2,3 @@
 pub mod Formulas
 pub mod Replies
 pub mod Answers
-pub mod Truths

@@ -1,178 +1,152 @@
-// Solving the replies held, from the highest fragment down. A truth value is a number: 0 no, 1 yes.
+// Solving the replies held, from the highest fragment down.
 // A fragment's row has 64 places: V of each entry, then D. Variables stand in the same order, so that a stand-in's are its fragment's row.
 #![tactic(auto)]
 
-ghost use Rattle.std.specs.Prelude.{◌≡◌, [], ◌+◌, ◌*◌, ◌≤◌, ◌<◌, length, take, get_or};
+ghost use Rattle.std.specs.Prelude.{◌≡◌, [], ◌+◌, ◌*◌, ◌≤◌, ◌<◌, length, take};
+ghost use Rattle.meaning.specs.Algebra.{bool};
 ghost use Rattle.meaning.specs.Says.{Says};
 ghost use Rattle.meaning.specs.Formula.{ref_value, step_value, step_values};
 ghost use Rattle.meaning.specs.Solve.{solved};
 ghost use Rattle.std.proofs.Math.Option.{some};
-ghost use Rattle.reply.specs.inner.Decode.{ref_from, step_from, ref_at, ins_to, entries_of, ins_of, steps_of, decoded};
-ghost use Rattle.reply.specs.inner.Checked.{Checked, RefOk, StepOk, RefGood, vars_of};
+ghost use Rattle.reply.specs.inner.Decode.{ref_at, steps_to, entries_of, ins_of, steps_of, decoded};
+ghost use Rattle.reply.specs.inner.Checked.{Checked, RefOk, StepOk, vars_of};
+ghost use Rattle.reply.specs.inner.Fields.{kind_code, op_code, HeadIs};
 ghost use Rattle.whole.specs.Whole.{Opened};
-ghost use Rattle.whole.specs.inner.Steps.{number_in};
-ghost use Rattle.solving.specs.inner.Values.{truths, values_in, variable_of, Put, Lent, Agree, AllHeard, answer_of};
+ghost use Rattle.solving.specs.inner.Values.{ref_of, step_of, truth_in, values_in, variable_of, Put, Agree, AllHeard, answer_of};
 
 use bits::Cursor;
-use reply::{HEAD_TO, StepField, header, take_in, take_ref, take_step};
-use whole::{Question, is_heard};
+use reply::{
+    HEAD_TO, Head, Op, RefKind, Reference, StepField, header, take_in, take_ref, take_step,
+};
+use whole::Question;
 
-// The value of a reference.
-fn value(kind: u32, x: usize, vars: &[u8; 2048], values: &[u8; 4096]) -> u8
-    requires { RefOk 2048 4096 kind x }
-    ensures { result ≡ ref_value truths (number_in vars.now) values.now (ref_from kind x) }
-{
-    if kind == 2 {
-        return vars[x];
-    }
-    if kind == 3 {
-        return values[x];
-    }
-    if kind == 1 {
-        return 1;
-    }
-    0
+// The places of a fragment's row.
+const ROW: usize = 64;
+
+// The bits of a stand-in, of a reference and of a step in a reply.
+const IN_WIDTH: usize = 5;
+
+const REF_WIDTH: usize = 14;
+
+const STEP_WIDTH: usize = 30;
+
+// What is known while solving: the rows, and of the reply in hand the variables and the values of the steps.
+#[derive(Drop)]
+struct Known {
+    rows: [bool; 2048],
+    vars: [bool; 2048],
+    values: [bool; 4096],
 }
 
-// The value of a step, once those before it are known.
-fn step_value(t: StepField, vars: &[u8; 2048], values: &[u8; 4096]) -> u8
-    requires { StepOk 2048 4096 t.op t.kind1 t.number1 t.kind2 t.number2 }
-    ensures { result ≡ step_value truths (number_in vars.now) values.now (step_from t.op (ref_from t.kind1 t.number1) (ref_from t.kind2 t.number2)) }
-{
-    let a = value(t.kind1, t.number1, vars, values);
-    if 1 < t.op {
-        if a == 0 {
-            return 1;
+impl Known {
+    // The value of a reference.
+    #[tactic(auto, unfolding(reply::specs::inner::Decode::ref_from, reply::specs::inner::Checked::RefOk))]
+    fn value(&self, r: Reference) -> bool
+        requires { RefOk 2048 4096 (kind_code r.kind) r.number }
+        ensures { result ≡ ref_value bool (truth_in self.now.vars) self.now.values (ref_of r) }
+    {
+        match r.kind {
+            RefKind::Low => false,
+            RefKind::High => true,
+            RefKind::Var => self.vars[r.number],
+            RefKind::Step => self.values[r.number],
         }
-        return 0;
     }
-    let b = value(t.kind2, t.number2, vars, values);
-    if t.op == 0 {
-        if a == 0 {
-            return 0;
+
+    // The value of a step, once those before it are known.
+    #[tactic(auto, unfolding(reply::specs::inner::Decode::step_from, reply::specs::inner::Checked::StepOk))]
+    fn step_value(&self, t: StepField) -> bool
+        requires { StepOk 2048 4096 (op_code t.op) (kind_code t.left.kind) t.left.number (kind_code t.right.kind) t.right.number }
+        ensures { result ≡ step_value bool (truth_in self.now.vars) self.now.values (step_of t) }
+    {
+        let a = self.value(t.left);
+        match t.op {
+            Some(Op::And) => a && self.value(t.right),
+            Some(Op::Or) => a || self.value(t.right),
+            Some(Op::Not) => !a,
+            None => unreachable!(),
         }
-        return b;
     }
-    if a == 0 {
-        return b;
-    }
-    a
-}
 
-// The values of all steps, in order.
-fn step_values(s: &[u8], at: usize, m: usize, vars: &[u8; 2048], values: &mut [u8; 4096])
-    requires { Checked 12 s.now × (m ≡ steps_of s.now) × (at ≡ ins_to (ins_of s.now)) × (length values.old ≡ 4096) }
-    ensures { (length values.new ≡ 4096) × (take (steps_of s.now) values.new ≡ step_values truths (number_in vars.now) [] (decoded 12 s.now).steps) }
-{
-    let mut i = 0;
-    let mut here = at;
-    while i < m {
-        let t = take_step(Cursor { at: here }, s, 12);
-        let x = step_value(t, vars, values);
-        values[i] = x;
-        here += 30;
-        i += 1;
+    // The variables of the reply s: for each stand-in the row of its fragment.
+    #[tactic(auto, using(crate::proofs::Replies::small))]
+    fn gather(&mut self, s: &[u8], h: Head)
+        requires { Checked 12 s.now × HeadIs s.now h }
+        ensures rows { self.new.rows ≡ self.old.rows }
+        ensures vars { (x : _) → x < vars_of s.now → truth_in self.new.vars x ≡ variable_of s.now self.old.rows x }
+    {
+        let n = 2 * h.entries;
+        for p in 0..h.ins {
+            // A slice first: no proof follows a part of an array behind a reference yet.
+            let rows: &[bool] = &self.rows;
+            let from = ROW * take_in(s, p);
+            let to = n * p;
+            self.vars[to..to + n].copy_from_slice(&rows[from..from + n]);
+        }
     }
-}
 
-// The values of the `count` references from `at` on, put into the rows from `base` on.
-fn results(
-    s: &[u8],
-    at: usize,
-    count: usize,
-    vars: &[u8; 2048],
-    values: &[u8; 4096],
-    rows: &mut [u8; 2048],
-    base: usize,
-)
-    requires { Checked 12 s.now × (at + 14 * count ≤ 8 * length s.now) × (base + count ≤ 2048) × (length rows.old ≡ 2048) × ((e : _) → e < count → RefGood 12 s.now (vars_of s.now) (steps_of s.now) (at + 14 * e)) }
-    ensures { Put rows.old base count (λ e. ref_value truths (number_in vars.now) values.now (ref_at 12 s.now (at + 14 * e))) rows.new }
-{
-    let mut e = 0;
-    let mut here = at;
-    while e < count {
-        let f = take_ref(Cursor { at: here }, s, 12);
-        let x = value(f.kind, f.number, vars, values);
-        rows[base + e] = x;
-        here += 14;
-        e += 1;
+    // The values of the steps of the reply s, in order.
+    #[tactic(auto, using(crate::proofs::Replies::small))]
+    fn step_values(&mut self, s: &[u8], h: Head)
+        requires { Checked 12 s.now × HeadIs s.now h }
+        ensures rows { self.new.rows ≡ self.old.rows }
+        ensures vars { self.new.vars ≡ self.old.vars }
+        ensures values { take (steps_of s.now) self.new.values ≡ step_values bool (truth_in self.old.vars) [] (decoded 12 s.now).steps }
+    {
+        let at = HEAD_TO + IN_WIDTH * h.ins;
+        for i in 0..h.steps {
+            let here = at + STEP_WIDTH * i;
+            let t = take_step(Cursor { at: here }, s, 12);
+            self.values[i] = self.step_value(t);
+        }
     }
-}
 
-// The `count` numbers of a row, put where a stand-in's variables begin.
-fn copy_row(rows: &[u8; 2048], from: usize, vars: &mut [u8; 2048], to: usize, count: usize)
-    requires { (from + count ≤ 2048) × (to + count ≤ 2048) × (length vars.old ≡ 2048) }
-    ensures { Put vars.old to count (λ e. get_or rows.now (from + e) 0) vars.new }
-{
-    let mut e = 0;
-    while e < count {
-        vars[to + e] = rows[from + e];
-        e += 1;
+    // The row of fragment f: the values of V and D of its reply s.
+    #[tactic(auto, using(crate::proofs::Replies::small))]
+    fn results(&mut self, s: &[u8], h: Head, f: usize)
+        requires { Checked 12 s.now × HeadIs s.now h × (f < 32) }
+        ensures { Put self.old.rows (64 * f) (2 * entries_of s.now) (λ e. ref_value bool (truth_in self.old.vars) self.old.values (ref_at 12 s.now (steps_to 12 (ins_of s.now) (steps_of s.now) + 14 * e))) self.new.rows }
+    {
+        let at = HEAD_TO + IN_WIDTH * h.ins + STEP_WIDTH * h.steps;
+        for e in 0..2 * h.entries {
+            let here = at + REF_WIDTH * e;
+            let r = take_ref(Cursor { at: here }, s, 12);
+            self.rows[ROW * f + e] = self.value(r.value);
+        }
     }
-}
 
-// The variables of a reply with n entries and k stand-ins.
-fn gather(s: &[u8], n: usize, k: usize, rows: &[u8; 2048], vars: &mut [u8; 2048])
-    requires { Checked 12 s.now × (n ≡ entries_of s.now) × (k ≡ ins_of s.now) × (length vars.old ≡ 2048) }
-    ensures { (length vars.new ≡ 2048) × ((x : _) → x < vars_of s.now → number_in vars.new x ≡ variable_of s.now rows.now x) }
-{
-    let mut p = 0;
-    let mut to = 0;
-    while p < k {
-        let g = take_in(s, p);
-        copy_row(rows, 64 * g, vars, to, 2 * n);
-        to += 2 * n;
-        p += 1;
+    // Fragment f solved by its reply s: its row, from those of the fragments that it stands for.
+    fn solve(&mut self, s: &[u8], f: usize)
+        requires { Checked 12 s.now × (f < 32) }
+        ensures { Agree (entries_of s.now) (values_in (entries_of s.now) self.new.rows) (solved bool (entries_of s.now) (some (decoded 12 s.now)) f (values_in (entries_of s.now) self.old.rows)) }
+    {
+        let h = header(s);
+        self.gather(s, h);
+        self.step_values(s, h);
+        self.results(s, h, f);
     }
-}
-
-// Fragment f solved by its reply s: its row, from those of the fragments that it stands for.
-fn solve(s: &[u8], f: usize, rows: &mut [u8; 2048], vars: &mut [u8; 2048], values: &mut [u8; 4096])
-    requires { Checked 12 s.now × (f < 32) × Lent rows.old vars.old values.old }
-    ensures { Lent rows.new vars.new values.new × Agree (entries_of s.now) (values_in (entries_of s.now) rows.new) (solved truths (entries_of s.now) (some (decoded 12 s.now)) f (values_in (entries_of s.now) rows.old)) }
-{
-    let h = header(s);
-    let n = h.entries;
-    let m = h.steps;
-    let a = HEAD_TO + 5 * h.ins;
-    gather(s, n, h.ins, rows, vars);
-    step_values(s, a, m, vars, values);
-    results(s, a + 30 * m, 2 * n, vars, values, rows, 64 * f);
 }
 
 // All fragments solved from the highest down: V of fragment 0's last entry.
-pub fn answer(q: Question, used: usize, store: &[u8]) -> u8
+pub fn answer(q: Question, used: usize, store: &[u8]) -> bool
     requires { Opened q used store.now × AllHeard q }
     ensures { result ≡ answer_of q store.now }
 {
-    let place = q.place;
-    let size = q.size;
-    let mut rows = [0u8; 2048];
-    let mut vars = [0u8; 2048];
-    let mut values = [0u8; 4096];
-    let mut f = q.parts;
-    while 0 < f {
-        f -= 1;
-        let a = place[f];
-        let end = a + size[f];
-        solve(&store[a..end], f, &mut rows, &mut vars, &mut values);
+    let mut known = Known {
+        rows: [false; 2048],
+        vars: [false; 2048],
+        values: [false; 4096],
+    };
+    for f in (0..q.parts).rev() {
+        let a = q.place[f];
+        known.solve(&store[a..a + q.size[f]], f);
     }
-    let e = q.entries - 1;
-    rows[e]
+    known.rows[q.entries - 1]
 }
 
 pub fn all_heard(q: Question) -> bool
     requires { q.parts ≤ 32 }
     ensures { Says (AllHeard q) result }
 {
-    let parts = q.parts;
-    let heard = q.heard;
-    let mut f = 0;
-    while f < parts {
-        if !is_heard(&heard, f) {
-            return false;
-        }
-        f += 1;
-    }
-    true
+    (0..q.parts).all(|f| q.is_heard(f))
 }

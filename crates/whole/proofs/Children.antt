@@ -26,12 +26,6 @@ place_mem [] i h = absurd (omega arith)
 place_mem (x ∷ l) zero h = Memᴰ.head refl
 place_mem (x ∷ l) (suc i) h = Memᴰ.tail (place_mem l i (omega arith))
 
--- inside a list the default plays no part
-pub same_at : (l : List ℕ) (i a b : ℕ) → i < length l → get_or l i a ≡ get_or l i b
-same_at [] i a b h = absurd (omega arith)
-same_at (x ∷ l) zero a b h = refl
-same_at (x ∷ l) (suc i) a b h = same_at l i a b (omega arith)
-
 -- ---- children
 pub child_has : (layout : Bytes) (k g : ℕ) → Memᴰ g (children_of layout k) → (g < length layout) × (parent_of layout g ≡ k)
 child_has layout k g m =

@@ -2,3 +2,4 @@
 pub mod Tiles
 pub mod Children
 pub mod Pieces
+pub mod Judgement

@@ -1,18 +1,19 @@
 -- What the tests of record and store have shown, on plain values.
 use Prim.Native.Nat.{ℕ, ◌+◌, ◌-◌, ◌≤◌, ◌<◌}
 use mathlib.Core.Path.{◌≡◌, refl, sym, ap, ◌∙◌, subst}
-use mathlib.Core.Bool.{Bool}
-use mathlib.Core.List.{List, Memᴰ}
+use mathlib.Core.Bool.{Bool, false}
+use mathlib.Core.List.{Memᴰ}
 use mathlib.Core.Logic.{◌≢◌}
 use native.Mathlib.Omega.{arith}
 use native.Mathlib.Nat.{min-le_left}
 use native.Mathlib.Decide.{dec_lt, ℕ_discrete}
 use lib.ListN.{length, get_or, take, drop, length-take}
-use Rattle.meaning.specs.Says.{Says}
+use Rattle.std.specs.Prelude.{Result, Ok, Err, IfOk, MatchResult}
+use Rattle.meaning.specs.Says.{Says, nay}
 use Rattle.meaning.specs.Bytes.{Bytes}
 use Rattle.meaning.specs.Reply.{Reply}
-use Rattle.meaning.specs.Register.{parent_of, Layout, children_of}
-use Rattle.meaning.proofs.Says.{says_iff}
+use Rattle.meaning.specs.Register.{children_of}
+use Rattle.meaning.proofs.Says.{says_iff, says_at}
 use Rattle.reply.specs.Read.{Is, Checks}
 use Rattle.reply.specs.inner.Decode.{in_at}
 use Rattle.reply.specs.inner.Fields.{HeadIs}
@@ -20,12 +21,15 @@ use Rattle.reply.specs.declared.Head.{Head}
 use Rattle.reply.proofs.Round.{Fields, fields_of, is_the, checked_of}
 use Rattle.meaning.specs.Refused.{refused, passed, granted}
 use Rattle.whole.specs.Whole.{layout_of, Rules, Shaped, Heard, start_of, size_of, part_of, Own, Laid, Opened, Whole, closed, opened}
-use Rattle.whole.specs.inner.Steps.{StandsFor, Judged, Tested}
+use Rattle.whole.specs.inner.Steps.{Fitting, Judged, number_of, judge_number, Tested}
 use Rattle.whole.specs.declared.Question.{Question}
 use Rattle.whole.specs.declared.Record.{Record}
+use Rattle.whole.specs.declared.Unfit.{Unfit}
+use Rattle.whole.specs.declared.Unfit.TheVariants.{NotAReply, OtherQuestion, Misfit}
 use Rattle.whole.proofs.Tiles.{tested_tiled, tiled_tested}
 use Rattle.whole.proofs.Children.{mem_place, place_mem, child_has, has_child}
 
+-- the same answer under another name
 -- ---- a reply
 -- bytes are one reply only
 pub one_of : (s : Bytes) (r t : Reply) → Is 12 s r → Is 12 s t → r ≡ t
@@ -64,43 +68,41 @@ module _ (q : Question) (s : Bytes) (r : Reply) (i : Is 12 s r) (h : Head) (H : 
   numbered : h.number ≡ q.number → (t : Reply) → Is 12 s t → t.number ≡ q.number
   numbered e t k = ap (λ (z : Reply). z.number) (one_reply t k) ∙ sym number_is ∙ e
 
-  pub misfit : h.number ≡ q.number → (Shaped q r → ⊥) → Judged q s 15
-  misfit e n = passed (r, i) (passed (numbered e) (refused (λ a. n (a r i))))
-
-  -- L is the layout as the code lends it
-  module _ (L : Bytes) (e : L ≡ layout_of q) where
-    pub shape_only : Shaped q r → (j : ℕ) → j < h.ins → (in_at s j < length L) × (parent_of L (in_at s j) ≡ h.fragment)
-    shape_only p j l =
+  pub shaped_fitting : Shaped q r → Fitting q s h
+  shaped_fitting p = record {
+    fragment_in = omega (arith, fragment_is, p.fragment_in);
+    entries_same = entries_is ∙ p.entries_same;
+    only = λ j l.
         let b : j < length r.ins = omega (arith, ins_are) in
         let c = child_has (layout_of q) r.fragment (get_or r.ins j 0) ((p.children (get_or r.ins j 0)).0 (place_mem r.ins j b)) in
-        rw (e, f.in_is j b, fragment_is) c
+        rw (f.in_is j b, fragment_is) (record { inside = c.0; parent = c.1 });
+    all = λ g c.
+        let m = mem_place r.ins g ((p.children g).1 (has_child (layout_of q) r.fragment g c.inside (c.parent ∙ fragment_is))) in
+        record { at = m.at; less = omega (arith, ins_are, m.less); is = f.in_is m.at m.less ∙ m.is };
+  }
 
-    pub shape_all : Shaped q r → (g : ℕ) → g < length L → parent_of L g ≡ h.fragment → StandsFor s h.ins g
-    shape_all p g l x =
-        let m = mem_place r.ins g ((p.children g).1 (has_child (layout_of q) r.fragment g (rw e at l) ((rw e at x) ∙ fragment_is))) in
-        record { at = m.at; less = omega (arith, ins_are, m.less); is = f.in_is m.at m.less ∙ m.is }
+  fitting_shaped : Fitting q s h → Shaped q r
+  fitting_shaped p = record { fragment_in = omega (arith, fragment_is, p.fragment_in); entries_same = sym entries_is ∙ p.entries_same; children = λ g. (to g, from g) }
+    where
+      to : (g : ℕ) → Memᴰ g r.ins → Memᴰ g (children_of (layout_of q) r.fragment)
+      to g m =
+          let w = mem_place r.ins g m in
+          let o = p.only w.at (omega (arith, ins_are, w.less)) in
+          let x : in_at s w.at ≡ g = f.in_is w.at w.less ∙ w.is in
+          has_child (layout_of q) r.fragment g (rw x at o.inside) ((rw x at o.parent) ∙ fragment_is)
 
-    pub well : h.number ≡ q.number → h.fragment < q.parts → h.entries ≡ q.entries
-        → ((j : ℕ) → j < h.ins → (in_at s j < length L) × (parent_of L (in_at s j) ≡ h.fragment))
-        → ((g : ℕ) → g < length L → parent_of L g ≡ h.fragment → StandsFor s h.ins g) → Judged q s 0
-    well en lf ee only all = passed (r, i) (passed (numbered en) (passed (λ t k. subst (Shaped q) (sym (one_reply t k)) shaped) granted))
-      where
-        to : (g : ℕ) → Memᴰ g r.ins → Memᴰ g (children_of (layout_of q) r.fragment)
-        to g m =
-            let p = mem_place r.ins g m in
-            let o = only p.at (omega (arith, ins_are, p.less)) in
-            let x : in_at s p.at ≡ g = f.in_is p.at p.less ∙ p.is in
-            has_child (layout_of q) r.fragment g (rw (x, e) at o.0) ((rw (x, e) at o.1) ∙ fragment_is)
+      from : (g : ℕ) → Memᴰ g (children_of (layout_of q) r.fragment) → Memᴰ g r.ins
+      from g m =
+          let c = child_has (layout_of q) r.fragment g m in
+          let w = p.all g (record { inside = c.0; parent = c.1 ∙ sym fragment_is }) in
+          let b : w.at < length r.ins = omega (arith, ins_are, w.less) in
+          subst (λ k. Memᴰ k r.ins) (sym (f.in_is w.at b) ∙ w.is) (place_mem r.ins w.at b)
 
-        from : (g : ℕ) → Memᴰ g (children_of (layout_of q) r.fragment) → Memᴰ g r.ins
-        from g m =
-            let c = child_has (layout_of q) r.fragment g m in
-            let p = all g (rw e c.0) (rw e c.1 ∙ sym fragment_is) in
-            let b : p.at < length r.ins = omega (arith, ins_are, p.less) in
-            subst (λ k. Memᴰ k r.ins) (sym (f.in_is p.at b) ∙ p.is) (place_mem r.ins p.at b)
+  pub misfit : h.number ≡ q.number → (Fitting q s h → ⊥) → Judged q s 15
+  misfit e n = passed (r, i) (passed (numbered e) (refused (λ a. n (shaped_fitting (a r i)))))
 
-        shaped : Shaped q r
-        shaped = record { fragment_in = omega (arith, fragment_is); entries_same = sym entries_is ∙ ee; children = λ g. (to g, from g) }
+  pub well : h.number ≡ q.number → Fitting q s h → Judged q s 0
+  well e p = passed (r, i) (passed (numbered e) (passed (λ t k. subst (Shaped q) (sym (one_reply t k)) (fitting_shaped p)) granted))
 
 -- the bytes s are the reply r, free of 13, 14 and 15
 pub record Free (q : Question) (s : Bytes) (r : Reply) : Type 0 where
@@ -148,25 +150,19 @@ reply_own {q} {s} o = record { judged = free_judged o.free; own = λ r i. ap (λ
 pub part_is : (q : Question) (store : Bytes) (f p n : ℕ) → p ≡ start_of q f → n ≡ size_of q f → take (p + n - p) (drop p store) ≡ part_of q store f
 part_is q store f p n ep en = let e : p + n - p ≡ n = omega arith in rw (e, ep, en) refl
 
-pub long_enough : {q : Question} {s : Bytes} {c : ℕ} → Judged q s c → c ≡ 0 → 8 ≤ length s
-long_enough {q} {s} j e = let t = judged_free j e in omega (arith, (checked_of 12 s t.0 t.1.is).head)
+pub number_some : (e : Unfit) → number_of e ≢ 0
+number_some NotAReply z = absurd (omega arith)
+number_some OtherQuestion z = absurd (omega arith)
+number_some Misfit z = absurd (omega arith)
 
-pub part_says : (q : Question) (s : Bytes) (f c : ℕ) (h : Head) {b : Bool} → Judged q s c → c ≡ 0 → HeadIs s h → Says (h.fragment ≡ f) b → Says (Own q s f) b
-part_says q s f c h j e H =
-    let t = judged_free j e in
+-- b answers whether the reply judged is f's
+pub judged_own : (q : Question) (s : Bytes) (f : ℕ) (r : Result Head Unfit) {b : Bool} {P : Head → Type 0} → Judged q s (judge_number r) → IfOk r (λ h. HeadIs s h)
+    → MatchResult r P (λ e. b ≡ false) → ((h : Head) → P h → Says (h.fragment ≡ f) b) → Says (Own q s f) b
+judged_own q s f (Ok h) j H m k =
+    let t = judged_free j refl in
     let x : h.fragment ≡ t.0.fragment = fragment_is q s t.0 t.1.is h H in
-    says_iff (λ y. reply_own (record { reply = t.0; free = t.1; own = sym x ∙ y })) (λ k. x ∙ k.own t.0 t.1.is)
-
-pub part_not : (q : Question) (s : Bytes) (f c : ℕ) → Judged q s c → c ≢ 0 → Own q s f → ⊥
-part_not q s f c j n k = let w = own_reply k in judged_not j n w.reply w.free
-
--- ---- the layout
-pub front_is : (n : ℕ) (l m : List ℕ) → l ≡ m → take (n - 0) (drop 0 l) ≡ take n m
-front_is n l m e = let z : n - 0 ≡ n = omega arith in rw (z, e) refl
-
-pub rules_says : (q : Question) (L : Bytes) {b : Bool} → L ≡ layout_of q → q.parts ≤ 32 → 1 ≤ q.entries → q.entries ≤ 32 → Says (Layout L) b → Says (Rules q) b
-rules_says q L e few one most k =
-    says_iff (λ l. record { few_parts = few; keeps = record { layout_keeps = subst Layout e l; some_entry = one; few_entries = most } }) (λ r. subst Layout (sym e) r.keeps.layout_keeps) k
+    says_iff (λ y. reply_own (record { reply = t.0; free = t.1; own = sym x ∙ y })) (λ o. x ∙ o.own t.0 t.1.is) (k h m)
+judged_own q s f (Err e) j H m k = says_at m (nay (λ o. let w = own_reply o in judged_not j (number_some e) w.reply w.free))
 
 -- ---- the whole store
 module _ (q : Question) (used : ℕ) (store : Bytes) where

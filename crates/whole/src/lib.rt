@@ -1,18 +1,38 @@
-// The desk's record, and whether record and store are whole: layout rules, each reply free of 13 to 15, and the store laid with no gap and no overlap.
+// The desk's record, and whether record and store are whole: layout rules, each reply free of 13 to 15,
+// and the store laid with no gap and no overlap.
 #![tactic(auto)]
 
-ghost use Rattle.std.specs.Prelude.{◌≡◌, ◌⊎◌, ◌+◌, ◌*◌, ◌^◌, ◌≤◌, ◌<◌, length};
+ghost use Rattle.std.specs.Prelude.{◌≡◌, ◌+◌, ◌*◌, ◌^◌, ◌≤◌, ◌<◌, length, IfOk};
 ghost use Rattle.meaning.specs.Says.{Says};
-ghost use Rattle.meaning.specs.Register.{parent_of, Layout};
-ghost use Rattle.reply.specs.inner.Decode.{ins_to, in_at};
-ghost use Rattle.whole.specs.Whole.{Rules, Heard, start_of, size_of, part_of, Own, Laid, Whole};
-ghost use Rattle.whole.specs.inner.Steps.{StandsFor, Judged, HeardIn, number_in, Starts, Apart, TileOk, Tested};
+ghost use Rattle.meaning.specs.Register.{Layout};
+ghost use Rattle.reply.specs.inner.Decode.{ins_to};
+ghost use Rattle.reply.specs.inner.Fields.{HeadIs};
+ghost use Rattle.whole.specs.Whole.{OpenRules, layout_of, Rules, Heard, start_of, size_of, part_of, Own, Laid, Whole};
+ghost use Rattle.whole.specs.inner.Steps.{StandsFor, ChildOf, OnlyChildren, AllChildren, Fitting, Judged, number_of, judge_number, Starts, Apart, TileOk, Tested};
 
-use reply::judging::reply_check;
-use reply::{header, take_in};
+use reply::judging::{NotAReply, reply_check};
+use reply::{Head, header, take_in};
+
+// Why a reply is not one for this question; the discriminants are the numbers of refusal.
+#[derive(Clone, Copy, Debug, PartialEq, Eq)]
+pub enum Unfit {
+    NotAReply = 13,
+    OtherQuestion = 14,
+    Misfit = 15,
+}
+
+impl From<NotAReply> for Unfit {
+    ghost from_gives = { λ _ unfit. number_of unfit ≡ 13 };
+
+    fn from(_refusal: NotAReply) -> Unfit {
+        Unfit::NotAReply
+    }
+}
 
 // A question: its number (0: none is open), entry count, layout, and for each fragment whether it is heard (0: it is not),
 // where its reply starts in the store and how many bytes it has.
+// It is laid out for C: so a number stands for none and for no, and arrays lie side by side.
+// C may fill it with anything: so what a test needs of it is a clause, and no invariant of the type.
 #[repr(C)]
 #[derive(Clone, Copy)]
 pub struct Question {
@@ -36,358 +56,226 @@ pub struct Record {
 
 // ---- layouts
 
-// A byte as a wider number.
-fn wide(x: u8) -> usize
-    ensures { result ≡ x }
-{
-    x as usize
-}
-
 pub fn layout_ok(layout: &[u8]) -> bool
     ensures { Says (Layout layout.now) result }
 {
     let parts = layout.len();
-    if parts < 1 {
+    if parts < 1 || 32 < parts || layout[0] != 255 {
         return false;
     }
-    if 32 < parts {
+    (1..parts).all(|k| usize::from(layout[k]) < k)
+}
+
+// Whether layout and entry count keep the rules of an open question.
+pub fn rules_ok(layout: &[u8], entries: usize) -> bool
+    ensures { Says (OpenRules layout.now entries) result }
+{
+    if entries < 1 || 32 < entries {
         return false;
     }
-    if layout[0] != 255 {
-        return false;
-    }
-    let mut k = 1;
-    while k < parts {
-        if k <= wide(layout[k]) {
-            return false;
-        }
-        k += 1;
-    }
-    true
+    layout_ok(layout)
 }
 
 // ---- a reply: 13, 14, 15
 
-// Whether g is among the first k stand-ins.
-fn stands_for(s: &[u8], k: usize, g: usize) -> bool
-    requires { (ins_to k ≤ 8 * length s.now) × (ins_to k < 2 ^ 64) }
-    ensures { Says (StandsFor s.now k g) result }
-{
-    let mut i = 0;
-    while i < k {
-        if take_in(s, i) == g {
+// The bytes of a reply, and its header.
+#[derive(Clone, Copy)]
+struct Received<'a> {
+    bytes: &'a [u8],
+    head: Head,
+    ghost room: { ins_to head.ins ≤ 8 * length bytes.now },
+    ghost few: { head.ins < 32 },
+}
+
+impl Received<'_> {
+    // Whether g is among the stand-ins.
+    fn stands_for(&self, g: usize) -> bool
+        ensures { Says (StandsFor self.now.bytes.now self.now.head.ins g) result }
+    {
+        (0..self.head.ins).any(|i| take_in(self.bytes, i) == g)
+    }
+
+    // Whether the layout cuts g from the reply's fragment.
+    fn is_child(&self, layout: &[u8], g: usize) -> bool
+        ensures { Says (ChildOf layout.now self.now.head.fragment g) result }
+    {
+        g < layout.len() && u32::from(layout[g]) == self.head.fragment
+    }
+
+    // Whether each stand-in is a child of the fragment.
+    fn only_children(&self, layout: &[u8]) -> bool
+        ensures { Says (OnlyChildren layout.now self.now.bytes.now self.now.head) result }
+    {
+        (0..self.head.ins).all(|i| self.is_child(layout, take_in(self.bytes, i)))
+    }
+
+    // If g is a child of the fragment, whether it has a stand-in.
+    fn child_met(&self, layout: &[u8], g: usize) -> bool
+        ensures { Says (ChildOf layout.now self.now.head.fragment g → StandsFor self.now.bytes.now self.now.head.ins g) result }
+    {
+        !self.is_child(layout, g) || self.stands_for(g)
+    }
+
+    // Whether each child of the fragment has a stand-in.
+    fn all_children(&self, layout: &[u8]) -> bool
+        ensures { Says (AllChildren layout.now self.now.bytes.now self.now.head) result }
+    {
+        (0..layout.len()).all(|g| self.child_met(layout, g))
+    }
+}
+
+impl Question {
+    // Whether the reply is of a fragment of this layout, has its entry count, and the fragment's children for stand-ins.
+    fn fits(&self, reply: &Received) -> bool
+        requires { self.now.parts ≤ 32 }
+        ensures { Says (Fitting self.now reply.now.bytes.now reply.now.head) result }
+    {
+        let head = reply.head;
+        if self.parts <= head.fragment as usize || head.entries != self.entries {
+            return false;
+        }
+        let layout = &self.layout[..self.parts];
+        reply.only_children(layout) && reply.all_children(layout)
+    }
+
+    // ---- the store
+
+    // Whether fragment f is heard.
+    pub fn is_heard(&self, f: usize) -> bool
+        requires { f < 32 }
+        ensures { Says (Heard self.now f) result }
+    {
+        self.heard[f] != 0
+    }
+
+    // If g is another heard fragment, whether its bytes and f's are apart.
+    fn apart(&self, f: usize, g: usize) -> bool
+        requires { (f < 32) × (g < 32) × (start_of self.now f + size_of self.now f < 2 ^ 64) }
+        ensures { Says (Heard self.now g → (g ≡ f → ⊥) → Apart (Heard self.now) (start_of self.now) (size_of self.now) f g) result }
+    {
+        if g == f || !self.is_heard(g) {
             return true;
         }
-        i += 1;
+        let a = self.place[f];
+        let b = self.place[g];
+        a + self.size[f] <= b || (b <= a && self.size[g] <= a - b)
     }
-    false
-}
 
-// If g's parent is the fragment, whether g is among the first k stand-ins.
-fn child_met(s: &[u8], k: usize, parent: usize, fragment: usize, g: usize) -> bool
-    requires { (ins_to k ≤ 8 * length s.now) × (ins_to k < 2 ^ 64) }
-    ensures { Says (parent ≡ fragment → StandsFor s.now k g) result }
-{
-    if parent != fragment {
-        return true;
+    // Whether f's bytes are apart from those of every other heard fragment.
+    fn apart_from(&self, f: usize) -> bool
+        requires { (f < 32) × (start_of self.now f + size_of self.now f < 2 ^ 64) }
+        ensures { Says ((g : _) → Heard self.now g → (g ≡ f → ⊥) → Apart (Heard self.now) (start_of self.now) (size_of self.now) f g) result }
+    {
+        (0..32).all(|g| self.apart(f, g))
     }
-    stands_for(s, k, g)
-}
 
-// Whether each of the k stand-ins is a child of the fragment.
-fn only_children(s: &[u8], k: usize, layout: &[u8], fragment: usize) -> bool
-    requires { (ins_to k ≤ 8 * length s.now) × (ins_to k < 2 ^ 64) }
-    ensures { Says ((i : _) → i < k → (in_at s.now i < length layout.now) × (parent_of layout.now (in_at s.now i) ≡ fragment)) result }
-{
-    let mut i = 0;
-    while i < k {
-        let g = take_in(s, i);
-        if layout.len() <= g {
-            return false;
-        }
-        if wide(layout[g]) != fragment {
-            return false;
-        }
-        i += 1;
+    // Whether g is heard and placed at `at`.
+    fn begins(&self, g: usize, at: usize) -> bool
+        requires { g < 32 }
+        ensures { Says (Heard self.now g × (start_of self.now g ≡ at)) result }
+    {
+        self.is_heard(g) && self.place[g] == at
     }
-    true
-}
 
-// Whether each child of the fragment is among the k stand-ins.
-fn all_children(s: &[u8], k: usize, layout: &[u8], fragment: usize) -> bool
-    requires { (ins_to k ≤ 8 * length s.now) × (ins_to k < 2 ^ 64) }
-    ensures { Says ((g : _) → g < length layout.now → parent_of layout.now g ≡ fragment → StandsFor s.now k g) result }
-{
-    let mut g = 0;
-    while g < layout.len() {
-        if !child_met(s, k, wide(layout[g]), fragment, g) {
-            return false;
-        }
-        g += 1;
+    // Whether some heard fragment is placed at `at`.
+    fn starts(&self, at: usize) -> bool
+        ensures { Says (Starts (Heard self.now) (start_of self.now) (size_of self.now) at) result }
+    {
+        (0..32).any(|g| self.begins(g, at))
     }
-    true
-}
 
-// The layout's array, with its length.
-fn parents(q: Question) -> [u8; 32]
-    ensures { (result ≡ q.layout) × (length result ≡ 32) }
-{
-    q.layout
-}
-
-// The first of 13, 14, 15 that applies to the bytes s, or 0.
-pub fn judge(q: Question, s: &[u8]) -> u8
-    requires { q.parts ≤ 32 }
-    ensures { Judged q s.now result }
-{
-    if reply_check(s) != 0 {
-        return 13;
-    }
-    let h = header(s);
-    let f = h.fragment as usize;
-    let k = h.ins;
-    let parts = q.parts;
-    if h.number as u64 != q.number {
-        return 14;
-    }
-    if parts <= f {
-        return 15;
-    }
-    if h.entries != q.entries {
-        return 15;
-    }
-    let l = parents(q);
-    if !only_children(s, k, &l[0..parts], f) {
-        return 15;
-    }
-    if !all_children(s, k, &l[0..parts], f) {
-        return 15;
-    }
-    0
-}
-
-// ---- the store
-
-pub fn is_heard(heard: &[u8; 32], f: usize) -> bool
-    requires { f < 32 }
-    ensures { Says (HeardIn heard.now f) result }
-{
-    heard[f] != 0
-}
-
-// If g is another heard fragment, whether its bytes and f's are apart.
-fn apart(heard: &[u8; 32], place: &[usize; 32], size: &[usize; 32], f: usize, g: usize) -> bool
-    requires { (f < 32) × (g < 32) × (number_in place.now f + number_in size.now f < 2 ^ 64) }
-    ensures { Says (HeardIn heard.now g → (g ≡ f → ⊥) → Apart (HeardIn heard.now) (number_in place.now) (number_in size.now) f g) result }
-{
-    if g == f {
-        return true;
-    }
-    if !is_heard(heard, g) {
-        return true;
-    }
-    let a = place[f];
-    let m = size[f];
-    let b = place[g];
-    let n = size[g];
-    if a + m <= b {
-        return true;
-    }
-    if a < b {
-        return false;
-    }
-    n <= a - b
-}
-
-fn apart_from(heard: &[u8; 32], place: &[usize; 32], size: &[usize; 32], f: usize) -> bool
-    requires { (f < 32) × (number_in place.now f + number_in size.now f < 2 ^ 64) }
-    ensures { Says ((g : _) → HeardIn heard.now g → (g ≡ f → ⊥) → Apart (HeardIn heard.now) (number_in place.now) (number_in size.now) f g) result }
-{
-    let mut g = 0;
-    while g < 32 {
-        if !apart(heard, place, size, f, g) {
-            return false;
-        }
-        g += 1;
-    }
-    true
-}
-
-// Whether g is heard and placed at `at`.
-fn begins(heard: &[u8; 32], place: &[usize; 32], g: usize, at: usize) -> bool
-    requires { g < 32 }
-    ensures { Says (HeardIn heard.now g × (number_in place.now g ≡ at)) result }
-{
-    if !is_heard(heard, g) {
-        return false;
-    }
-    place[g] == at
-}
-
-// Whether some heard fragment is placed at `at`.
-fn starts(heard: &[u8; 32], place: &[usize; 32], at: usize) -> bool
-    ensures { (size : _) → Says (Starts (HeardIn heard.now) (number_in place.now) size at) result }
-{
-    let mut g = 0;
-    while g < 32 {
-        if begins(heard, place, g, at) {
+    // If f is heard, whether its part is inside, apart from the others, and the last or followed.
+    fn tile_ok(&self, used: usize, f: usize) -> bool
+        requires { f < 32 }
+        ensures { Says (Heard self.now f → TileOk (Heard self.now) (start_of self.now) (size_of self.now) used f) result }
+    {
+        if !self.is_heard(f) {
             return true;
         }
-        g += 1;
-    }
-    false
-}
-
-// Whether a part that ends at `end` is the last, or others start where it ends.
-fn followed(heard: &[u8; 32], place: &[usize; 32], used: usize, end: usize) -> bool
-    ensures { (size : _) → Says ((end ≡ used) ⊎ Starts (HeardIn heard.now) (number_in place.now) size end) result }
-{
-    if end == used {
-        return true;
-    }
-    starts(heard, place, end)
-}
-
-// If f is heard, whether its part is inside, apart from the others, and the last or followed.
-fn tile_ok(heard: &[u8; 32], place: &[usize; 32], size: &[usize; 32], used: usize, f: usize) -> bool
-    requires { f < 32 }
-    ensures { Says (HeardIn heard.now f → TileOk (HeardIn heard.now) (number_in place.now) (number_in size.now) used f) result }
-{
-    if !is_heard(heard, f) {
-        return true;
-    }
-    let a = place[f];
-    let n = size[f];
-    if used < n {
-        return false;
-    }
-    if used - n < a {
-        return false;
-    }
-    if !apart_from(heard, place, size, f) {
-        return false;
-    }
-    followed(heard, place, used, a + n)
-}
-
-// Whether the heard fragments' parts lie below `used` with no gap and no overlap.
-fn all_tiles(heard: &[u8; 32], place: &[usize; 32], size: &[usize; 32], used: usize) -> bool
-    ensures { Says (Tested (HeardIn heard.now) (number_in place.now) (number_in size.now) used) result }
-{
-    let mut f = 0;
-    while f < 32 {
-        if !tile_ok(heard, place, size, used, f) {
+        let a = self.place[f];
+        let n = self.size[f];
+        if used < n || used - n < a {
             return false;
         }
-        f += 1;
+        self.apart_from(f) && (a + n == used || self.starts(a + n))
     }
-    if used == 0 {
-        return true;
-    }
-    starts(heard, place, 0)
-}
 
-// Whether the bytes s are a reply of f, free of 13 to 15.
-fn part_ok(q: Question, s: &[u8], f: usize) -> bool
-    requires { q.parts ≤ 32 }
-    ensures { Says (Own q s.now f) result }
-{
-    if judge(q, s) != 0 {
-        return false;
+    // Whether the heard fragments' parts lie below `used` with no gap and no overlap.
+    fn all_tiles(&self, used: usize) -> bool
+        ensures { Says (Tested (Heard self.now) (start_of self.now) (size_of self.now) used) result }
+    {
+        (0..32).all(|f| self.tile_ok(used, f)) && (used == 0 || self.starts(0))
     }
-    let h = header(s);
-    h.fragment as usize == f
-}
 
-// Whether the bytes recorded for each heard fragment are its reply.
-fn replies_ok(q: Question, store: &[u8]) -> bool
-    requires { (q.parts ≤ 32) × ((f : _) → Heard q f → start_of q f + size_of q f ≤ length store.now) }
-    ensures { Says ((f : _) → Heard q f → Own q (part_of q store.now f) f) result }
-{
-    let heard = q.heard;
-    let place = q.place;
-    let size = q.size;
-    let mut f = 0;
-    while f < 32 {
-        if is_heard(&heard, f) {
-            let a = place[f];
-            let end = a + size[f];
-            if !part_ok(q, &store[a..end], f) {
-                return false;
-            }
+    // If f is heard, whether the bytes recorded for it are its reply, free of 13 to 15.
+    fn reply_ok(&self, store: &[u8], f: usize) -> bool
+        requires parts { self.now.parts ≤ 32 }
+        requires few { f < 32 }
+        requires inside { Heard self.now f → start_of self.now f + size_of self.now f ≤ length store.now }
+        ensures { Says (Heard self.now f → Own self.now (part_of self.now store.now f) f) result }
+    {
+        if !self.is_heard(f) {
+            return true;
         }
-        f += 1;
+        let at = self.place[f];
+        let part = &store[at..at + self.size[f]];
+        judge(*self, part).is_ok_and(|h| h.fragment as usize == f)
     }
-    true
-}
 
-// Whether the used part of the store is exactly the heard fragments' replies.
-fn laid(q: Question, used: usize, store: &[u8]) -> bool
-    requires { q.parts ≤ 32 }
-    ensures { Says (Laid q used store.now) result }
-{
-    if store.len() < used {
-        return false;
+    // Whether the bytes recorded for each heard fragment are its reply.
+    fn replies_ok(&self, store: &[u8]) -> bool
+        requires parts { self.now.parts ≤ 32 }
+        requires inside { (f : _) → Heard self.now f → start_of self.now f + size_of self.now f ≤ length store.now }
+        ensures { Says ((f : _) → Heard self.now f → Own self.now (part_of self.now store.now f) f) result }
+    {
+        (0..32).all(|f| self.reply_ok(store, f))
     }
-    let heard = q.heard;
-    let place = q.place;
-    let size = q.size;
-    if !all_tiles(&heard, &place, &size, used) {
-        return false;
-    }
-    replies_ok(q, store)
-}
 
-// ---- the record
-
-// Whether layout and entry count keep their rules.
-fn rules(q: Question) -> bool
-    ensures { Says (Rules q) result }
-{
-    let parts = q.parts;
-    if 32 < parts {
-        return false;
-    }
-    if q.entries < 1 {
-        return false;
-    }
-    if 32 < q.entries {
-        return false;
-    }
-    let l = parents(q);
-    layout_ok(&l[0..parts])
-}
-
-fn none_heard(heard: &[u8; 32]) -> bool
-    ensures { Says ((f : _) → HeardIn heard.now f → ⊥) result }
-{
-    let mut f = 0;
-    while f < 32 {
-        if is_heard(heard, f) {
+    // Whether the used part of the store is exactly the heard fragments' replies.
+    fn laid(&self, used: usize, store: &[u8]) -> bool
+        requires { self.now.parts ≤ 32 }
+        ensures { Says (Laid self.now used store.now) result }
+    {
+        if store.len() < used {
             return false;
         }
-        f += 1;
+        self.all_tiles(used) && self.replies_ok(store)
     }
-    true
+
+    // Whether layout and entry count keep their rules.
+    fn rules(&self) -> bool
+        ensures { Says (Rules self.now) result }
+    {
+        self.parts <= 32 && rules_ok(&self.layout[..self.parts], self.entries)
+    }
+}
+
+// The reply's header, or the first of 13, 14, 15 that applies to the bytes s.
+pub fn judge(q: Question, s: &[u8]) -> Result<Head, Unfit>
+    requires { q.parts ≤ 32 }
+    ensures number { Judged q s.now (judge_number result) }
+    ensures head { IfOk result (λ h. HeadIs s.now h) }
+{
+    reply_check(s)?;
+    let head = header(s);
+    if u64::from(head.number) != q.number {
+        return Err(Unfit::OtherQuestion);
+    }
+    if !q.fits(&Received { bytes: s, head }) {
+        return Err(Unfit::Misfit);
+    }
+    Ok(head)
 }
 
 pub fn whole(desk: Record, store: &[u8]) -> bool
     ensures { Says (Whole desk store.now) result }
 {
     let q = desk.question;
-    let used = desk.used;
-    if q.number == 0 {
-        if desk.last != 0 {
-            return false;
-        }
-        if used != 0 {
-            return false;
-        }
-        let heard = q.heard;
-        return none_heard(&heard);
+    if q.number != 0 {
+        return q.rules() && q.laid(desk.used, store);
     }
-    if !rules(q) {
+    if desk.last != 0 || desk.used != 0 {
         return false;
     }
-    laid(q, used, store)
+    !(0..32).any(|f| q.is_heard(f))
 }

@@ -1,4 +1,5 @@
 -- The laws behind writing a reply.
+pub mod Chunks
 pub mod Codes
 pub mod Whole
 pub mod Rows

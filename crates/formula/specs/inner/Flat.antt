@@ -1,12 +1,12 @@
 -- WHAT THE INNER FUNCTIONS DO on the flat memory, each by an equation: V of every row and entry from 0 on, C from `size` on, D from
 -- 2 × size on, the steps from 4 × size on; a row's references begin at `at`.
-use Rattle.std.specs.Prelude.{ℕ, zero, suc, ◌+◌, ◌-◌, ◌*◌, ◌<◌, ◌≤◌, Bool, cond, ◌≡◌, List, length, get_or, set, eqb, ltb}
+use Rattle.std.specs.Prelude.{ℕ, zero, suc, ◌+◌, ◌-◌, ◌*◌, Bool, cond, List, get_or, set, eqb, ltb}
 use Rattle.meaning.specs.Bytes.{Bytes, word, label_is, text_is}
-use Rattle.meaning.specs.Entry.{Entry, Points}
-use Rattle.meaning.specs.Fragment.{Fragment, Sound, row_count, rows_of}
+use Rattle.meaning.specs.Entry.{Entry}
+use Rattle.meaning.specs.Fragment.{Fragment, rows_of}
 use Rattle.meaning.specs.Bound.{count}
 use Rattle.question.specs.declared.List as L
-use Rattle.question.specs.Listed.{Place, entry_of, placed, Keeps}
+use Rattle.question.specs.Listed.{Place, entry_of, placed}
 
 -- the memory and the count of steps, 4097 where one did not fit; the same and a reference
 pub record St : Type 0 where
@@ -23,26 +23,6 @@ pub record Got : Type 0 where
 
 abbrev pub got : List ℕ → ℕ → ℕ → Got
 got m n c = record { mem = m; steps = n; code = c }
-
-pub record Room (size : ℕ) (m : List ℕ) (n : ℕ) : Type 0 where
-  pub room : 4 * size + 12288 ≤ length m
-  pub count : n < 4098
-
--- list and fragment keep their rules, and `size` is rows × entries
-pub record Ruled (l : L.List) (t : Bytes) (F : Fragment) (size : ℕ) : Type 0 where
-  pub number : ℕ
-  pub sound : Sound number F
-  pub keeps : Keeps l t
-  pub cells : size ≡ row_count F * l.count
-
--- what a function leaves: the memory, the count and the reference are those of g, or of s
-pub record Gives (m : List ℕ) (n c : ℕ) (g : Got) : Type 0 where
-  pub is : got m n c ≡ g
-  pub count : n < 4098
-
-pub record Does (m : List ℕ) (n : ℕ) (s : St) : Type 0 where
-  pub is : st m n ≡ s
-  pub count : n < 4098
 
 -- f at i, i + 1, .., n of them; f at k - 1, .. 0
 unfoldable pub across : {A : Type 0} → (ℕ → A → A) → ℕ → ℕ → A → A
@@ -87,11 +67,6 @@ test_f F k (Entry.lower i) = 4096
 test_f F k (Entry.or i j) = 4096
 test_f F k (Entry.and i j) = 4096
 test_f F k (Entry.not i) = 4096
-
--- entry e, of kind k with operands i and j, reads only earlier ones
-pub record Reads (e k i j : ℕ) : Type 0 where
-  pub known : k ≤ 8
-  pub points : Points (λ w. Unit {0}) e (placed k i j)
 
 abbrev pub value_f : ℕ → ℕ → Entry Place → ℕ → List ℕ → ℕ → Got
 value_f size at Entry.self t m n = got m n t

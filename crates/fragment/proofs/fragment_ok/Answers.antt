@@ -1,19 +1,30 @@
+use Prim.Native.Nat.{◌*◌, ◌/◌, ◌≤◌}
+use mathlib.Core.Path.{◌≡◌, refl}
+use lib.ListN.{length}
 use native.Mathlib.Omega.{arith}
-use Rattle.meaning.specs.Says.{nay}
-use Rattle.meaning.proofs.Says.{says_iff}
+use borrow.Author.Rules.{rules}
+use Rattle.meaning.specs.Says.{Says, aye}
+use Rattle.meaning.proofs.Numbers.{says_eqb, says_leb}
+use Rattle.meaning.proofs.Ranges.{says_all, says_within}
+use Rattle.fragment.proofs.Rules.{says_sound}
 use Rattle.fragment.proofs.fragment_ok.Goals as goal
+use Rattle.fragment.proofs.fragment_ok.Goals.{then-number-le31, else-number-le31, then-rows-count, else-rows-count}
+use Rattle.meaning.proofs.Says.{says_then, says_else, says_off}
 
-pub returns-then-number-gt31 : goal.returns-then-number-gt31
-returns-then-number-gt31 c = nay (λ w. omega (arith, w.number_most))
+pub returns-then-contains : goal.returns-then-contains
+returns-then-contains c =
+    let rows = c.args.rows.now in
+    let first : Says ((c.args.number ≤ 31) × (length rows ≡ length rows / 6 * 6)) c.if-number-le31.value =
+    elim c.if-number-le31.branch [ then-number-le31 u ↦ says_then (aye u.if-number-le31.true) refl (says_eqb _ _) u.value-is | else-number-le31 u ↦ says_off (says_leb _ _) (λ h. omega (arith, h, u.if-number-le31.false)) u.value-is ] in
+    let second : Says (((c.args.number ≤ 31) × (length rows ≡ length rows / 6 * 6)) × ((1 ≤ length rows / 6) × (length rows / 6 ≤ 512))) c.if-rows-count.value =
+    elim c.if-rows-count.branch [ then-rows-count w ↦ says_then first w.if-rows-count.true (says_within _ _ w.new.ensures.start w.new.ensures.end w.new.ensures.exhausted w.contains.ensures.value) w.value-is | else-rows-count w ↦ says_else first w.if-rows-count.false w.value-is ] in
+    says_sound _ _ (says_then second c.if-contains.true (says_all _ _ _ _ _ c.all.ensures.ran (λ x b q h. search rules)) refl)
 
-pub returns-then-rows-count : goal.returns-then-rows-count
-returns-then-rows-count c = nay (λ w. c.if-rows-count.true w.sixes)
-
-pub returns-then-count-lt1 : goal.returns-then-count-lt1
-returns-then-count-lt1 c = nay (λ w. omega (arith, w.some_row))
-
-pub returns-then-count-gt512 : goal.returns-then-count-gt512
-returns-then-count-gt512 c = nay (λ w. omega (arith, w.rows_most))
-
-pub returns : goal.returns
-returns c = says_iff (λ e. record { number_most = c.if-number-gt31.false; sixes = c.if-rows-count.false; some_row = omega arith; rows_most = c.if-count-gt512.false; each = e }) (λ w. w.each) c.rows_ok.ensures
+pub returns-else-contains : goal.returns-else-contains
+returns-else-contains c =
+    let rows = c.args.rows.now in
+    let first : Says ((c.args.number ≤ 31) × (length rows ≡ length rows / 6 * 6)) c.if-number-le31.value =
+    elim c.if-number-le31.branch [ then-number-le31 u ↦ says_then (aye u.if-number-le31.true) refl (says_eqb _ _) u.value-is | else-number-le31 u ↦ says_off (says_leb _ _) (λ h. omega (arith, h, u.if-number-le31.false)) u.value-is ] in
+    let second : Says (((c.args.number ≤ 31) × (length rows ≡ length rows / 6 * 6)) × ((1 ≤ length rows / 6) × (length rows / 6 ≤ 512))) c.if-rows-count.value =
+    elim c.if-rows-count.branch [ then-rows-count w ↦ says_then first w.if-rows-count.true (says_within _ _ w.new.ensures.start w.new.ensures.end w.new.ensures.exhausted w.contains.ensures.value) w.value-is | else-rows-count w ↦ says_else first w.if-rows-count.false w.value-is ] in
+    says_sound _ _ (says_else second c.if-contains.false refl)

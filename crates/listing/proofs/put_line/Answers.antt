@@ -1,20 +1,32 @@
 use native.Mathlib.Omega.{arith}
-use Rattle.meaning.specs.Bytes.{word}
-use Rattle.question.specs.Listed.{entry_of}
-use Rattle.listing.proofs.Lines.{line_length, puts_line}
+use mathlib.Core.Path.{◌≡◌, ap}
+use Prim.Native.Nat.{ℕ, ◌+◌}
+use lib.ListN.{length, get_or, length-append}
+use Rattle.listing.specs.Listing.{decimal, line}
+use Rattle.listing.specs.inner.Parts.{entry_in, word_of, operands}
+use Rattle.listing.proofs.Lines.{line_size, line_put}
 use Rattle.listing.proofs.put_line.Goals as goal
+use Rattle.listing.proofs.put_line.Goals.{After-unwrap-kind}
 
-pub put_number-number-requires : goal.put_number-number-requires
-put_number-number-requires c = record { n_bound = omega (arith, c.requires.i_bound); n_in_bounds = omega (arith, c.requires.b_in_bounds, line_length c.args.i (entry_of (word c.args.text.now) c.args.kind c.args.a c.args.b)) }
+size : (c : After-unwrap-kind) → length (line c.args.i (entry_in c.args.list.now c.args.text.now c.args.i)) ≡ length (decimal c.args.i) + length (word_of c.unwrap-kind.result) + length (operands c.args.text.now c.unwrap-kind.result (get_or c.args.list.now.left c.args.i 0) (get_or c.args.list.now.right c.args.i 0)) + 2
+size c = line_size c.args.list.now c.args.text.now c.args.i _ (rw c.unwrap-kind.ensures at c.try_from.ensures)
 
-pub put_bytes-blank-requires : goal.put_bytes-blank-requires
-put_bytes-blank-requires c = omega (arith, c.requires.b_in_bounds, c.put_number-number.ensures.moves, line_length c.args.i (entry_of (word c.args.text.now) c.args.kind c.args.a c.args.b))
+pub put_number-requires-clause-room : goal.put_number-requires-clause-room
+put_number-requires-clause-room c = omega (arith, c.requires.room, size (goal.at.put_number-requires-clause-room c).After-unwrap-kind)
 
-pub put_entry-entry-requires : goal.put_entry-entry-requires
-put_entry-entry-requires c = record { by_index = (c.args.i, c.requires.i_bound, c.requires.entry_rule); b_in_bounds = omega (arith, c.requires.b_in_bounds, c.put_number-number.ensures.moves, c.put_bytes-blank.ensures.moves, line_length c.args.i (entry_of (word c.args.text.now) c.args.kind c.args.a c.args.b)) }
+pub put-requires : goal.put-requires
+put-requires c = omega (arith, c.requires.room, size (goal.at.put-requires c).After-unwrap-kind, ap length c.put_number.ensures, length-append {A = ℕ})
 
-pub put_bytes-requires : goal.put_bytes-requires
-put_bytes-requires c = omega (arith, c.requires.b_in_bounds, c.put_number-number.ensures.moves, c.put_bytes-blank.ensures.moves, c.put_entry-entry.ensures.moves, line_length c.args.i (entry_of (word c.args.text.now) c.args.kind c.args.a c.args.b))
+pub put-requires-2 : goal.put-requires-2
+put-requires-2 c = omega (arith, c.requires.room, size (goal.at.put-requires-2 c).After-unwrap-kind, ap length c.put_number.ensures, ap length c.put.ensures, ap length c.word_of.ensures, length-append {A = ℕ})
+
+pub put_operands-requires-clause-room : goal.put_operands-requires-clause-room
+put_operands-requires-clause-room c = omega (arith, c.requires.room, size (goal.at.put_operands-requires-clause-room c).After-unwrap-kind, ap length c.put_number.ensures, ap length c.put.ensures, ap length c.put-2.ensures, ap length c.word_of.ensures, length-append {A = ℕ})
+
+pub put-requires-3 : goal.put-requires-3
+put-requires-3 c = omega (arith, c.requires.room, size (goal.at.put-requires-3 c).After-unwrap-kind, ap length c.put_number.ensures, ap length c.put.ensures, ap length c.put-2.ensures, ap length c.word_of.ensures, ap length c.put_operands.ensures, length-append {A = ℕ})
 
 pub returns : goal.returns
-returns c = puts_line c.args.i (entry_of (word c.args.text.now) c.args.kind c.args.a c.args.b) c.put_number-number.ensures c.put_bytes-blank.ensures c.put_entry-entry.ensures c.put_bytes.ensures
+returns c =
+    let e = line_put c.args.list.now c.args.text.now c.args.i _ (rw c.unwrap-kind.ensures at c.try_from.ensures) c.args.page.now in
+    cc

@@ -1,16 +1,25 @@
 use native.Mathlib.Omega.{arith}
-use Rattle.listing.proofs.Pages.{decimal_size}
-use Rattle.listing.proofs.Lines.{listing_length, puts_listing, most_listing}
+use Prim.Native.Nat.{ℕ}
+use mathlib.Core.Path.{ap, ◌∙◌, sym}
+use mathlib.Core.List.{◌++◌, append-nil}
+use lib.ListN.{length, length-append}
+use Rattle.listing.proofs.Lines.{decimal_size, left_room, left_none, head_put, line_more}
 use Rattle.listing.proofs.put_listing.Goals as goal
 
-pub put_one-word-requires : goal.put_one-word-requires
-put_one-word-requires c = record { a_bound = omega (arith, c.requires.keeps.most); a_in_bounds = omega (arith, c.requires.in_bounds, decimal_size c.args.list.count) }
+pub put_number-requires-clause-room : goal.put_number-requires-clause-room
+put_number-requires-clause-room c = omega (arith, ap length c.put.ensures, ap length c.requires.empty, decimal_size c.args.list.now.count, length-append {A = ℕ})
 
-pub put_bytes-head-requires : goal.put_bytes-head-requires
-put_bytes-head-requires c = omega (arith, c.requires.in_bounds, c.put_one-word.ensures.moves, decimal_size c.args.list.count)
+pub put-requires-2 : goal.put-requires-2
+put-requires-2 c = omega (arith, ap length c.put.ensures, ap length c.requires.empty, ap length c.put_number.ensures, decimal_size c.args.list.now.count, length-append {A = ℕ})
 
-pub put_lines-requires : goal.put_lines-requires
-put_lines-requires c = record { keeps = c.requires.keeps; text_in_bounds = omega (arith, c.requires.in_bounds, c.put_one-word.ensures.moves, c.put_bytes-head.ensures.moves, listing_length c.args.list c.args.text.now, (most_listing _ _ c.requires.keeps).1) }
+pub loop-i-init : goal.loop-i-init
+loop-i-init c = rw (c.put-2.ensures, c.put_number.ensures, c.put.ensures, c.requires.empty) (head_put c.args.list.now c.args.text.now)
+
+pub put_line-requires-clause-room : goal.put_line-requires-clause-room
+put_line-requires-clause-room c = left_room c.args.list.now c.args.text.now _ c.loop-i.i c.loop-i-test.true c.requires.keeps c.loop-i.invariant
+
+pub loop-i-preserved : goal.loop-i-preserved
+loop-i-preserved c = line_more c.args.list.now c.args.text.now _ _ c.loop-i.i c.loop-i-test.true c.put_line.ensures c.loop-i.invariant
 
 pub returns : goal.returns
-returns c = puts_listing c.args.list c.args.text.now c.put_one-word.ensures c.put_bytes-head.ensures c.put_lines.ensures
+returns c = sym (append-nil c.loop-i.page) ∙ ap (λ w. c.loop-i.page ++ w) (sym (left_none c.args.list.now c.args.text.now _ c.loop-i-test.false)) ∙ c.loop-i.invariant

@@ -1,19 +1,20 @@
 -- What the functions of the reader promise each other: a form is read soundly (what is read is a tree of the form) and completely
 -- (a tree that stands there, followed by what may follow it, is read).
-use Rattle.std.specs.Prelude.{ℕ, suc, ◌+◌, ◌*◌, ◌%◌, ◌≤◌, max, ◌≡◌}
-use Rattle.std.specs.Prelude.{Bool, true, false, cond, ◌&&◌, ◌≢◌, List, [], ◌∷◌, ◌++◌, length, get_or, drop, set, ltb, eqb}
-use Rattle.meaning.specs.Refused.{Granted}
+use Rattle.std.specs.Prelude.{ℕ, ◌+◌, ◌-◌, ◌*◌, ◌%◌, ◌≤◌, max, ◌≡◌}
+use Rattle.std.specs.Prelude.{Bool, false, cond, List, [], ◌∷◌, ◌++◌, length, get_or, drop, set, ltb, eqb, Option, MatchOption}
+use Rattle.std.specs.List.{starts_with}
 use Rattle.meaning.specs.Bytes.{Bytes}
 use Rattle.meaning.specs.Question.{Question, Conj, OneUnit, Begin, Steps, Rest, Quoted, is_name_byte, is_quotable, write_quoted}
 use Rattle.meaning.specs.Question.{write_question, write_conj, write_unit, write_begin, write_steps, write_rest}
 use Rattle.meaning.specs.Term.{Term, beginning, normal, normal_conj, normal_unit, normal_steps, normal_rest}
 use Rattle.meaning.specs.Entry.{Entry, root, flat}
 use Rattle.question.specs.declared.List as L
-use Rattle.reader.specs.declared.State.{State}
-use Rattle.reader.specs.declared.Answer.{Answer}
+use Rattle.reader.specs.declared.state.State.{State}
+use Rattle.question.specs.declared.kind.Kind.{Kind}
+use Rattle.reader.specs.declared.grammar.Chain.{Chain}
+use Rattle.reader.specs.declared.word.Word.{Word}
 use Rattle.question.specs.Listed.{Place}
-use Rattle.reader.specs.Packed.{word_place, coded, placed_entries, empty_list}
-use Rattle.reader.specs.Read.{Written, Scan}
+use Rattle.reader.specs.Packed.{word_place, coded}
 
 -- THE STATE'S STEPS. An entry more: counted, and kept where there is room
 abbrev pub stored : List ℕ → ℕ → ℕ → List ℕ
@@ -28,50 +29,29 @@ pushed l kind a b = record {
 }
 
 abbrev pub added : State → ℕ → ℕ → ℕ → State
-added s kind a b = record {
-  ok = s.ok;
-  at = s.at;
-  top = s.list.count;
-  depth = s.depth;
-  most = s.most;
-  list = pushed s.list kind a b;
-}
+added s kind a b = record { text = s.text; at = s.at; depth = s.depth; most = s.most; list = pushed s.list kind a b }
 
 abbrev pub moved : State → ℕ → State
-moved s at = record { ok = s.ok; at = at; top = s.top; depth = s.depth; most = s.most; list = s.list }
+moved s at = record { text = s.text; at = at; depth = s.depth; most = s.most; list = s.list }
 
-abbrev pub failed : State → State
-failed s = record { ok = false; at = s.at; top = s.top; depth = s.depth; most = s.most; list = s.list }
-
--- past an opening bracket
+-- past an opening bracket, and past a closing one
 abbrev pub deepened : State → ℕ → State
-deepened s at = record { ok = s.ok; at = at; top = s.top; depth = s.depth + 1; most = max s.most (s.depth + 1); list = s.list }
+deepened s at = record { text = s.text; at = at; depth = s.depth + 1; most = max s.most (s.depth + 1); list = s.list }
 
-abbrev pub opened : State → ℕ → State
-opened s depth = record { ok = s.ok; at = s.at; top = s.top; depth = depth; most = s.most; list = s.list }
+abbrev pub closed : State → State
+closed s = record { text = s.text; at = s.at + 1; depth = s.depth - 1; most = s.most; list = s.list }
 
 abbrev pub byte_at : Bytes → ℕ → ℕ
 byte_at t at = get_or t at 0
 
--- past the byte b, which has to stand there
-abbrev pub shut_by : Bytes → State → ℕ → ℕ → State
-shut_by t s b depth = cond (eqb (byte_at t s.at) b) (moved (opened s depth) (s.at + 1)) (failed (opened s depth))
-
 -- whether the bytes b stand at the front of x
-unfoldable pub fronts : Bytes → Bytes → Bool
-fronts [] x = true
-fronts (b ∷ bs) [] = false
-fronts (b ∷ bs) (x ∷ xs) = eqb x b && fronts bs xs
+abbrev pub fronts : Bytes → Bytes → Bool
+fronts b x = starts_with eqb x b
 
--- the bytes of a quoted word, and of a name
-abbrev pub passes : Bool → ℕ → Bool
-passes true b = is_quotable b
-passes false b = is_name_byte b
-
--- how many bytes at the front pass p
-unfoldable pub span : (ℕ → Bool) → Bytes → ℕ
-span p [] = 0
-span p (b ∷ x) = cond (p b) (suc (span p x)) 0
+-- the bytes of a name, and of a quoted word
+abbrev pub passes : Word → ℕ → Bool
+passes Word.Name b = is_name_byte b
+passes Word.Quoted b = is_quotable b
 
 -- an entry's kind and operands
 abbrev pub kind_code : Entry Place → ℕ
@@ -186,16 +166,22 @@ Follows Form.path b = PathEnds b
 Follows Form.steps b = PathEnds b
 Follows Form.rest b = PathEnds b
 
--- from s to r the text is w, and the entries of the term a were added
-pub record Made (t : Bytes) (s r : State) (w : Bytes) (a : Term Place) (k : ℕ → ℕ) : Type 0 where
+-- from s to r the text is w, and the entries of the term a were added, the last of them number n
+pub record Made (t : Bytes) (s r : State) (n : ℕ) (w : Bytes) (a : Term Place) (k : ℕ → ℕ) : Type 0 where
   pub text : drop s.at t ≡ w ++ drop r.at t
   pub place : r.at ≡ s.at + length w
   pub list : r.list ≡ emitted a s.list
-  pub top : r.top ≡ root s.list.count a
+  pub top : n ≡ root s.list.count a
   pub most : r.most ≡ k s.most
 
-abbrev pub MadeOf : (g : Form) → Bytes → State → State → TreeOf g → Type 0
-MadeOf g t s r c = Made t s r (text_of g c) (term_of g s.at c) (reach_of g s.depth c)
+abbrev pub MadeOf : (g : Form) → Bytes → State → State → ℕ → TreeOf g → Type 0
+MadeOf g t s r n c = Made t s r n (text_of g c) (term_of g s.at c) (reach_of g s.depth c)
+
+-- a tree stands at a place, followed by what may follow it
+pub record StandsAt (g : Form) (t : Bytes) (at : ℕ) (c : TreeOf g) : Type 0 where
+  pub after : Bytes
+  pub text : drop at t ≡ text_of g c ++ after
+  pub follows : Follows g (get_or after 0 0)
 
 -- a tail adds one entry though it may take no byte
 abbrev pub slack : Form → ℕ
@@ -206,11 +192,14 @@ slack Form.path = 0
 slack Form.steps = 0
 slack Form.rest = 1
 
-pub record Ready (t : Bytes) (s : State) : Type 0 where
+pub record ReadyIn (t : Bytes) (s : State) : Type 0 where
   pub small : length t ≤ 255
   pub inside : s.at ≤ length t
   pub few : s.list.count ≤ 4 * s.at
   pub level : s.depth ≤ s.at
+
+abbrev pub Ready : State → Type 0
+Ready s = ReadyIn s.text.now s
 
 -- where reading goes: on, inside the text, as deep as before, with few entries
 pub record Goes (t : Bytes) (s r : State) (extra : ℕ) : Type 0 where
@@ -218,72 +207,59 @@ pub record Goes (t : Bytes) (s r : State) (extra : ℕ) : Type 0 where
   pub inside : r.at ≤ length t
   pub few : r.list.count + 4 * s.at ≤ s.list.count + 4 * r.at + extra
   pub level : r.depth ≡ s.depth
+  pub same : r.text ≡ s.text
 
--- THE FORM g IS READ from s to r
-pub record Reads (g : Form) (t : Bytes) (s r : State) : Type 0 where
+-- THE FORM g IS READ from s to r, if it stands there; n is the number of the entry that was added last
+-- no tree of the form g stands at a place
+pub record Nowhere (g : Form) (t : Bytes) (at : ℕ) : Type 0 where
+  pub none : (c : TreeOf g) → StandsAt g t at c → ⊥
+
+-- one was read from s to r, n the number of the entry that was added last; and one that stands there is what was read
+pub record Found (g : Form) (t : Bytes) (s r : State) (n : ℕ) : Type 0 where
   pub goes : Goes t s r (slack g)
-  pub sound : r.ok ≡ true → (s.ok ≡ true) × ((c : TreeOf g) × MadeOf g t s r c)
-  pub complete : s.ok ≡ true → (c : TreeOf g) (z : Bytes) → drop s.at t ≡ text_of g c ++ z → Follows g (get_or z 0 0)
-      → (r.ok ≡ true) × MadeOf g t s r c
+  pub sound : (c : TreeOf g) × MadeOf g t s r n c
+  pub complete : (c : TreeOf g) → StandsAt g t s.at c → MadeOf g t s r n c
+
+-- THE FORM g IS READ, if it stands there
+abbrev pub ReadsIn : (g : Form) → Bytes → State → State → Option ℕ → Type 0
+ReadsIn g t s r o = MatchOption o (Nowhere g t s.at) (λ n. Found g t s r n)
+
+abbrev pub Reads : Form → State → State → Option ℕ → Type 0
+Reads g s r o = ReadsIn g s.text.now s r o
 
 -- CHAINS: `|` joins conjunctions to a question, `&` units to a conjunction
-pub data Chain : Type 0 where
-  ors ands : Chain
-
 abbrev pub whole : Chain → Form
-whole Chain.ors = Form.question
-whole Chain.ands = Form.conj
+whole Chain.Ors = Form.question
+whole Chain.Ands = Form.conj
 
 abbrev pub item : Chain → Form
-item Chain.ors = Form.conj
-item Chain.ands = Form.unit
+item Chain.Ors = Form.conj
+item Chain.Ands = Form.unit
 
 abbrev pub sign : Chain → ℕ
-sign Chain.ors = 124
-sign Chain.ands = 38
+sign Chain.Ors = 124
+sign Chain.Ands = 38
 
-abbrev pub single : (c : Chain) → TreeOf (item c) → TreeOf (whole c)
-single Chain.ors i = Question.conj i
-single Chain.ands i = Conj.unit i
+abbrev pub kind_of : Chain → Kind
+kind_of Chain.Ors = Kind.Or
+kind_of Chain.Ands = Kind.And
 
-abbrev pub joined : (c : Chain) → TreeOf (whole c) → TreeOf (item c) → TreeOf (whole c)
-joined Chain.ors q i = Question.either q i
-joined Chain.ands q i = Conj.both q i
-
-unfoldable pub grown : (c : Chain) → TreeOf (whole c) → List (TreeOf (item c)) → TreeOf (whole c)
-grown c q [] = q
-grown c q (i ∷ is) = grown c (joined c q i) is
-
-unfoldable pub write_chain : (c : Chain) → List (TreeOf (item c)) → Bytes
-write_chain c [] = []
-write_chain c (i ∷ is) = sign c ∷ (text_of (item c) i ++ write_chain c is)
-
--- what was made up to s is, with these items behind it, made up to r
-abbrev pub GoesOn : (c : Chain) → Bytes → State → State → List (TreeOf (item c)) → Type 0
-GoesOn c t s r is = (o : State) (q : TreeOf (whole c)) → o.depth ≡ s.depth → MadeOf (whole c) t o s q
-    → MadeOf (whole c) t o r (grown c q is)
-
--- what was read before s is gone on with to r
-pub record Extends (c : Chain) (t : Bytes) (s r : State) : Type 0 where
-  pub goes : Goes t s r 0
-  pub sound : r.ok ≡ true → (s.ok ≡ true) × ((is : List (TreeOf (item c))) × GoesOn c t s r is)
-  pub complete : s.ok ≡ true → (is : List (TreeOf (item c))) (z : Bytes) → drop s.at t ≡ write_chain c is ++ z
-      → Follows (whole c) (get_or z 0 0) → (r.ok ≡ true) × GoesOn c t s r is
-
--- a quoted word is read, and its entry added
+-- past a quoted word, and its entry added
 abbrev pub after_quoted : State → ℕ → Quoted → State
 after_quoted s kind w = added (moved s (s.at + 1 + length w.bytes + 1)) kind (s.at + 1) (length w.bytes)
 
-pub record Quotes (t : Bytes) (s r : State) (kind : ℕ) : Type 0 where
+-- a quoted word was read, n the number of its entry
+pub record Worded (t : Bytes) (s r : State) (kind n : ℕ) : Type 0 where
   pub goes : Goes t s r 0
-  pub sound : r.ok ≡ true → (w : Quoted) × (r ≡ after_quoted s kind w) × (drop s.at t ≡ write_quoted w ++ drop r.at t)
-  pub complete : (w : Quoted) (z : Bytes) → drop s.at t ≡ write_quoted w ++ z → r ≡ after_quoted s kind w
+  pub word : Quoted
+  pub text : drop s.at t ≡ write_quoted word ++ drop r.at t
+  pub is : r ≡ after_quoted s kind word
+  pub top : n ≡ s.list.count
+  pub alone : (w : Quoted) (z : Bytes) → drop s.at t ≡ write_quoted w ++ z → r ≡ after_quoted s kind w
 
--- WHAT BECOMES OF A TEXT, 4 apart: all entries are counted
-abbrev pub refused : ℕ → Answer
-refused n = record { refusal = n; list = empty_list }
+-- A QUOTED WORD IS READ, if one stands there
+abbrev pub QuotesIn : Bytes → State → State → ℕ → Option ℕ → Type 0
+QuotesIn t s r kind o = MatchOption o ((w : Quoted) (z : Bytes) → drop s.at t ≡ write_quoted w ++ z → ⊥) (λ n. Worded t s r kind n)
 
-pub record Scanned (t : Bytes) (a : Answer) : Type 0 where
-  pub why : Scan t Granted a.refusal
-  pub refused : a.refusal ≢ 0 → a.list ≡ empty_list
-  pub listed : a.refusal ≡ 0 → (w : Written t) → a.list ≡ kept (placed_entries w.tree) empty_list
+abbrev pub Quotes : State → State → ℕ → Option ℕ → Type 0
+Quotes s r kind o = QuotesIn s.text.now s r kind o

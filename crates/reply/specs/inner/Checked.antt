@@ -1,11 +1,13 @@
 -- What the check tests, on the numbers read at a place; and `Checked`, all of it together. Inner functions' contracts cite these.
 use Rattle.std.specs.Prelude.{ℕ, zero, suc, ◌+◌, ◌-◌, ◌*◌, ◌≤◌, ◌<◌, ◌≡◌, false, length, replicate}
+use Rattle.bits.specs.Bits.{bytes_for}
 use Rattle.bits.specs.Fields.{field_at}
 use Rattle.bits.specs.inner.Stand.{BitsStand}
 use Rattle.meaning.specs.Bytes.{Bytes}
 use Rattle.reply.specs.WellFormed.{vars}
 use Rattle.reply.specs.inner.Decode.{ref_width, step_width, ins_to, steps_to, v_to, end_of}
 use Rattle.reply.specs.inner.Decode.{number_of, fragment_of, entries_of, ins_of, steps_of, in_at}
+use Rattle.reply.specs.declared.Head.{Head}
 
 -- a result's kind and number, of n variables and m steps
 unfoldable pub RefOk : ℕ → ℕ → ℕ → ℕ → Type 0
@@ -38,6 +40,12 @@ StepGood w s n m p =
 pub record InGood (s : Bytes) (f i : ℕ) : Type 0 where
   pub above : f < in_at s i
   pub fresh : (j : ℕ) → j < i → in_at s j ≡ in_at s i → ⊥
+
+-- a header's numbers are allowed, and so many bytes are what it says
+pub record SizesOk (h : Head) (size : ℕ) : Type 0 where
+  pub asked : 0 < h.number
+  pub few : h.steps ≤ 4096
+  pub whole : bytes_for (end_of 12 h.ins h.steps h.entries) ≡ size
 
 abbrev pub vars_of : Bytes → ℕ
 vars_of s = vars (entries_of s) (ins_of s)

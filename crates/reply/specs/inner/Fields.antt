@@ -1,11 +1,26 @@
 -- What inner functions read: the fields at a place, and the bounds that the width gives.
-use Rattle.std.specs.Prelude.{ℕ, ◌+◌, ◌^◌, ◌≤◌, ◌<◌, ◌≡◌}
+use Rattle.std.specs.Prelude.{ℕ, ◌+◌, ◌^◌, ◌≤◌, ◌<◌, ◌≡◌, Option, Some, None}
 use Rattle.bits.specs.Fields.{field_at}
 use Rattle.meaning.specs.Bytes.{Bytes}
 use Rattle.reply.specs.inner.Decode.{ref_width, number_of, fragment_of, entries_of, ins_of, steps_of, in_at}
 use Rattle.reply.specs.declared.Head.{Head}
+use Rattle.reply.specs.declared.RefKind.{RefKind}
+use Rattle.reply.specs.declared.Op.{Op}
 use Rattle.reply.specs.declared.RefField.{RefField}
 use Rattle.reply.specs.declared.StepField.{StepField}
+
+-- ---- the codes of a reference's kind and of a step's operation; code 3 names no operation
+abbrev pub kind_code : RefKind → ℕ
+kind_code RefKind.Low = 0
+kind_code RefKind.High = 1
+kind_code RefKind.Var = 2
+kind_code RefKind.Step = 3
+
+abbrev pub op_code : Option Op → ℕ
+op_code (Some Op.And) = 0
+op_code (Some Op.Or) = 1
+op_code (Some Op.Not) = 2
+op_code None = 3
 
 pub record HeadIs (s : Bytes) (h : Head) : Type 0 where
   pub number_is : h.number ≡ number_of s
@@ -23,20 +38,16 @@ pub record InIs (s : Bytes) (i x : ℕ) : Type 0 where
   pub in_lt : x < 32
 
 pub record RefIs (w : ℕ) (s : Bytes) (at : ℕ) (r : RefField) : Type 0 where
-  pub kind_is : r.kind ≡ field_at s at 2
-  pub number_is : r.number ≡ field_at s (at + 2) w
+  pub kind_is : kind_code r.value.kind ≡ field_at s at 2
+  pub number_is : r.value.number ≡ field_at s (at + 2) w
   pub next_is : r.next.at ≡ at + ref_width w
-  pub kind_lt : r.kind < 4
-  pub number_lt : r.number < 2 ^ w
+  pub number_lt : r.value.number < 2 ^ w
 
 pub record StepIs (w : ℕ) (s : Bytes) (at : ℕ) (t : StepField) : Type 0 where
-  pub op_is : t.op ≡ field_at s at 2
-  pub kind1_is : t.kind1 ≡ field_at s (at + 2) 2
-  pub number1_is : t.number1 ≡ field_at s (at + 2 + 2) w
-  pub kind2_is : t.kind2 ≡ field_at s (at + 2 + ref_width w) 2
-  pub number2_is : t.number2 ≡ field_at s (at + 2 + ref_width w + 2) w
-  pub op_lt : t.op < 4
-  pub kind1_lt : t.kind1 < 4
-  pub kind2_lt : t.kind2 < 4
-  pub number1_lt : t.number1 < 2 ^ w
-  pub number2_lt : t.number2 < 2 ^ w
+  pub op_is : op_code t.op ≡ field_at s at 2
+  pub left_kind_is : kind_code t.left.kind ≡ field_at s (at + 2) 2
+  pub left_number_is : t.left.number ≡ field_at s (at + 2 + 2) w
+  pub right_kind_is : kind_code t.right.kind ≡ field_at s (at + 2 + ref_width w) 2
+  pub right_number_is : t.right.number ≡ field_at s (at + 2 + ref_width w + 2) w
+  pub left_number_lt : t.left.number < 2 ^ w
+  pub right_number_lt : t.right.number < 2 ^ w

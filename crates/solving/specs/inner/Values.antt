@@ -1,40 +1,44 @@
--- Solving with truth values as numbers, in flat lists. Inner functions' contracts cite these.
-use Rattle.std.specs.Prelude.{ℕ, ◌+◌, ◌-◌, ◌*◌, ◌≤◌, ◌<◌, ◌≡◌, ◌⊎◌, cond, List, length, get_or, eqb}
+-- Solving in flat lists of truth values. Inner functions' contracts cite these.
+use Rattle.std.specs.Prelude.{ℕ, ◌+◌, ◌-◌, ◌*◌, ◌≤◌, ◌<◌, ◌≡◌, ◌⊎◌, Bool, false, List, length, get_or}
 use Rattle.std.proofs.Math.Option.{Option, some}
 use Rattle.meaning.specs.Bytes.{Bytes}
-use Rattle.meaning.specs.Algebra.{Truth}
+use Rattle.meaning.specs.Algebra.{bool}
+use Rattle.meaning.specs.Formula.{Ref, Step}
 use Rattle.meaning.specs.Reply.{Reply, tabulated}
 use Rattle.meaning.specs.Solve.{Values, assign, solve, no_values}
-use Rattle.reply.specs.inner.Decode.{entries_of, ins_of, in_at, decoded}
+use Rattle.reply.specs.inner.Decode.{ref_from, step_from, entries_of, ins_of, in_at, decoded}
+use Rattle.reply.specs.inner.Fields.{kind_code, op_code}
+use Rattle.reply.specs.declared.Reference.{Reference}
+use Rattle.reply.specs.declared.StepField.{StepField}
 use Rattle.whole.specs.Whole.{Heard, part_of}
 use Rattle.whole.specs.declared.Question.{Question}
 
--- 0 no, 1 yes
-abbrev pub truths : Truth
-truths = record { X = ℕ; no = 0; yes = 1; and = λ a b. cond (eqb a 0) 0 b; or = λ a b. cond (eqb a 0) b a; neg = λ a. cond (eqb a 0) 1 0 }
+-- what was read, as a reference and a step
+abbrev pub ref_of : Reference → Ref
+ref_of r = ref_from (kind_code r.kind) r.number
+
+abbrev pub step_of : StepField → Step
+step_of t = step_from (op_code t.op) (ref_of t.left) (ref_of t.right)
+
+abbrev pub truth_in : List Bool → ℕ → Bool
+truth_in l x = get_or l x false
 
 -- the values that rows hold, 64 places to a fragment: V of its n entries, then D
-abbrev pub values_in : ℕ → List ℕ → Values ℕ
-values_in n rows = record { v = λ f e. get_or rows (64 * f + e) 0; d = λ f e. get_or rows (64 * f + (n + e)) 0 }
+abbrev pub values_in : ℕ → List Bool → Values Bool
+values_in n rows = record { v = λ f e. truth_in rows (64 * f + e); d = λ f e. truth_in rows (64 * f + (n + e)) }
 
 -- the variables of the reply that bytes are
-unfoldable pub variable_of : Bytes → List ℕ → ℕ → ℕ
-variable_of s rows = assign truths (entries_of s) (tabulated (ins_of s) 0 (in_at s)) (values_in (entries_of s) rows)
+unfoldable pub variable_of : Bytes → List Bool → ℕ → Bool
+variable_of s rows = assign bool (entries_of s) (tabulated (ins_of s) 0 (in_at s)) (values_in (entries_of s) rows)
 
--- numbers put into a list from `base` on
-pub record Put (list : List ℕ) (base count : ℕ) (f : ℕ → ℕ) (out : List ℕ) : Type 0 where
-  pub here : (e : ℕ) → e < count → get_or out (base + e) 0 ≡ f e
-  pub other : (i : ℕ) → (i < base) ⊎ (base + count ≤ i) → get_or out i 0 ≡ get_or list i 0
+-- truth values put into a list from `base` on
+pub record Put (list : List Bool) (base count : ℕ) (f : ℕ → Bool) (out : List Bool) : Type 0 where
+  pub here : (e : ℕ) → e < count → truth_in out (base + e) ≡ f e
+  pub other : (i : ℕ) → (i < base) ⊎ (base + count ≤ i) → truth_in out i ≡ truth_in list i
   pub long : length out ≡ length list
 
--- the arrays' lengths, which a reference does not tell
-pub record Lent (rows vars values : List ℕ) : Type 0 where
-  pub rows_all : length rows ≡ 2048
-  pub vars_all : length vars ≡ 2048
-  pub values_all : length values ≡ 4096
-
 -- values that agree for n entries
-pub record Agree (n : ℕ) (S T : Values ℕ) : Type 0 where
+pub record Agree (n : ℕ) (S T : Values Bool) : Type 0 where
   pub v_same : (g e : ℕ) → e < n → S.v g e ≡ T.v g e
   pub d_same : (g e : ℕ) → e < n → S.d g e ≡ T.d g e
 
@@ -46,5 +50,5 @@ abbrev pub kept : Question → Bytes → ℕ → Option Reply
 kept q store f = some (decoded 12 (part_of q store f))
 
 -- V of fragment 0's last entry
-unfoldable pub answer_of : Question → Bytes → ℕ
-answer_of q store = (solve truths q.entries (kept q store) q.parts (no_values truths q.entries)).v 0 (q.entries - 1)
+unfoldable pub answer_of : Question → Bytes → Bool
+answer_of q store = (solve bool q.entries (kept q store) q.parts (no_values bool q.entries)).v 0 (q.entries - 1)

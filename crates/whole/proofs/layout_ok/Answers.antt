@@ -1,32 +1,24 @@
-use Prim.Native.Nat.{◌<◌}
-use mathlib.Core.Path.{refl, ◌∙◌}
-use native.Mathlib.Omega.{arith}
-use Rattle.meaning.specs.Says.{aye, nay}
-use Rattle.meaning.specs.Register.{parent_of}
-use Rattle.reply.proofs.Lists.{up_to_suc}
-use Rattle.whole.proofs.Children.{same_at}
+-- `whole::layout_ok` meets its contract.
+use Rattle.std.proofs.Common.{◌<◌, sym, ◌∙◌, get_or, arith, rules}
+use Rattle.meaning.proofs.Says.{says_iff, says_at}
+use Rattle.meaning.specs.Says.{nay}
+use Rattle.meaning.proofs.Ranges.{says_all}
+use Rattle.std.proofs.lemmas.Grind.{get_or_default_zero}
 use Rattle.whole.proofs.layout_ok.Goals as goal
+use Rattle.whole.proofs.layout_ok.Goals.{then-parts-lt1-via-then-parts-lt1, then-parts-lt1-via-else-parts-lt1+then-parts-gt32, then-parts-lt1-via-else-parts-lt1+else-parts-gt32+then-layout}
+use Rattle.meaning.proofs.Numbers.{says_ltb}
 
 pub returns-then-parts-lt1 : goal.returns-then-parts-lt1
-returns-then-parts-lt1 c = nay (λ h. omega (arith, h.some_part, c.if-parts-lt1.true))
-
-pub returns-then-parts-gt32 : goal.returns-then-parts-gt32
-returns-then-parts-gt32 c = nay (λ h. omega (arith, h.most, c.if-parts-gt32.true))
-
-pub returns-then-layout : goal.returns-then-layout
-returns-then-layout c = nay (λ h. c.if-layout.true (same_at c.args.layout.now 0 0 255 (omega arith) ∙ h.top))
-
-pub loop-k-init : goal.loop-k-init
-loop-k-init c = (omega arith, omega arith, refl, λ j h z. absurd (omega arith))
-
-pub bounds-layout-k : goal.bounds-layout-k
-bounds-layout-k c = omega (arith, c.loop-k.invariant.2)
-
-pub returns-then-k-wide : goal.returns-then-k-wide
-returns-then-k-wide c = nay (λ h. omega (arith, h.falling c.loop-k.k c.loop-k.invariant.0 (omega (arith, c.loop-k.invariant.2)), c.if-k-wide.true, c.wide.ensures, same_at c.args.layout.now c.loop-k.k 255 0 (omega (arith, c.loop-k.invariant.2))))
-
-pub loop-k-preserved : goal.loop-k-preserved
-loop-k-preserved c = (omega arith, omega arith, c.loop-k.invariant.2, λ j h. up_to_suc (λ j. 0 < j → parent_of c.args.layout.now j < j) c.loop-k.k c.loop-k.invariant.3 (λ z. omega (arith, c.if-k-wide.false, c.wide.ensures, same_at c.args.layout.now c.loop-k.k 255 0 (omega (arith, c.loop-k.invariant.2)))) j (omega arith))
+returns-then-parts-lt1 c = nay (λ h. elim c.then-parts-lt1.branch [
+  | then-parts-lt1-via-then-parts-lt1 w ↦ omega (arith, h.some_part)
+  | then-parts-lt1-via-else-parts-lt1+then-parts-gt32 w ↦ omega (arith, h.most)
+  | then-parts-lt1-via-else-parts-lt1+else-parts-gt32+then-layout w ↦ w.if-layout.true (sym (get_or_default_zero c.args.layout.now 0 255 (omega arith)) ∙ h.top)
+])
 
 pub returns : goal.returns
-returns c = aye (record { some_part = omega arith; most = omega arith; top = same_at c.args.layout.now 0 255 0 (omega arith) ∙ c.if-layout.false; falling = λ k z l. c.loop-k.invariant.3 k (omega (arith, c.loop-k-test.false, c.loop-k.invariant.2)) z })
+returns c =
+    let l = c.args.layout.now in
+    says_iff
+    (λ w. record { some_part = omega arith; most = omega arith; top = get_or_default_zero l 0 255 (omega arith) ∙ c.if-layout.false; falling = λ k z h. omega (arith, w k z h, get_or_default_zero l k 255 h) })
+    (λ w k a h. omega (arith, w.falling k a h, get_or_default_zero l k 255 h))
+    (says_all _ _ _ c.all.result (λ k. get_or l k 0 < k) c.all.ensures.ran (λ x b q k. (search rules, search (rules, says_at, says_ltb))))

@@ -1,23 +1,31 @@
 -- `whole::whole` meets its contract.
-use Rattle.meaning.proofs.Says.{says_false, says_true}
+use Rattle.std.proofs.Common.{arith, rules}
+use Rattle.meaning.proofs.Says.{says_iff, says_not, says_false, says_true, says_at}
 use Rattle.meaning.specs.Says.{nay}
-use Rattle.whole.proofs.Pieces.{whole_fresh, not_fresh, whole_open, whole_rules}
+use Rattle.meaning.proofs.Ranges.{says_any}
+use Rattle.whole.specs.Whole.{Heard}
+use Rattle.whole.proofs.Pieces.{whole_fresh, not_fresh, whole_open, was_open}
 use Rattle.whole.proofs.whole.Goals as goal
-
-pub returns-then-desk-ne0 : goal.returns-then-desk-ne0
-returns-then-desk-ne0 c = nay (not_fresh c.args.desk c.args.store.now c.if-q-eq0.true (λ l u. c.if-desk-ne0.true l))
-
-pub returns-then-used-ne0 : goal.returns-then-used-ne0
-returns-then-used-ne0 c = nay (not_fresh c.args.desk c.args.store.now c.if-q-eq0.true (λ l u. c.if-used-ne0.true u))
-
-pub returns-then-q-eq0 : goal.returns-then-q-eq0
-returns-then-q-eq0 c = whole_fresh c.args.desk c.args.store.now c.if-q-eq0.true c.if-desk-ne0.false c.if-used-ne0.false c.none_heard.ensures
-
-pub returns-then-not-rules : goal.returns-then-not-rules
-returns-then-not-rules c = nay (whole_rules c.args.desk c.args.store.now c.if-q-eq0.false (says_false c.rules.ensures c.if-not-rules.true))
+use Rattle.whole.proofs.whole.Goals.{then-desk-ne0-via-then-desk-ne0, then-desk-ne0-via-else-desk-ne0+then-desk-ne0-2}
 
 pub laid-requires : goal.laid-requires
-laid-requires c = (says_true c.rules.ensures c.if-not-rules.false).few_parts
+laid-requires c = (says_true c.rules.ensures c.if-rules.true).few_parts
+
+pub returns-then-rules : goal.returns-then-rules
+returns-then-rules c = whole_open c.args.desk c.args.store.now c.if-q-ne0.true (says_true c.rules.ensures c.if-rules.true) c.laid.ensures
+
+pub returns-else-rules : goal.returns-else-rules
+returns-else-rules c =
+    says_iff (λ r. absurd (says_false c.rules.ensures c.if-rules.false r)) (λ w. (was_open c.args.desk c.args.store.now w c.if-q-ne0.true).rules) c.rules.ensures
+
+pub returns-then-desk-ne0 : goal.returns-then-desk-ne0
+returns-then-desk-ne0 c = nay (not_fresh c.args.desk c.args.store.now c.if-q-ne0.false (λ l u. elim c.then-desk-ne0.branch [
+  | then-desk-ne0-via-then-desk-ne0 w ↦ w.if-desk-ne0.true l
+  | then-desk-ne0-via-else-desk-ne0+then-desk-ne0-2 w ↦ w.if-desk-ne0-2.true u
+]))
 
 pub returns : goal.returns
-returns c = whole_open c.args.desk c.args.store.now c.if-q-eq0.false (says_true c.rules.ensures c.if-not-rules.false) c.laid.ensures
+returns c =
+    let q = c.args.desk.question in
+    whole_fresh c.args.desk c.args.store.now c.if-q-ne0.false c.if-desk-ne0.false c.if-desk-ne0-2.false
+    (says_iff (λ n f h. n (f, omega arith, h.0, h)) (λ n t. n t.0 t.3) (says_not (says_any _ _ _ c.any.result (λ f. Heard q f) c.any.ensures.ran (λ x b q' k. (search rules, search (rules, says_at))))))

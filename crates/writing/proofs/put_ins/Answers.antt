@@ -1,46 +1,58 @@
 use Prim.Native.Nat.{◌<◌}
-use mathlib.Core.Path.{◌≡◌}
+use mathlib.Core.Path.{◌≡◌, ap, ◌∙◌}
 use native.Mathlib.Omega.{arith}
+use lib.ListN.{length}
 use Rattle.bits.specs.Bits.{digits}
 use Rattle.bits.proofs.Laws.{wrote_none, wrote_append}
 use Rattle.writing.specs.inner.Codes.{bare}
 use Rattle.meaning.specs.Fragment.{row_count}
 use Rattle.reply.proofs.Lists.{each_append}
+use Rattle.writing.proofs.Chunks.{left_all, chunk_of, one_more, left_end}
 use Rattle.writing.proofs.Codes.{rows_none, first_ins, row_at, ins_none, ins_more, ins_longer, ins_room, ins_all}
 use Rattle.writing.proofs.put_ins.Goals as goal
 
-pub loop-k-init : goal.loop-k-init
-loop-k-init c =
+pub loop-row-init : goal.loop-row-init
+loop-row-init c =
     let a = c.args in
     let z = ins_none a.rows.now in
-    (omega arith, rw z (omega arith), rw (z, rows_none) (wrote_none a.out.now a.c.at (omega (arith, c.requires.rows_bound))))
+    record {
+      size = cc;
+      left = rw (c.into_iter-row-iterator.ensures.into_iter_gives, c.chunks_exact-row-items.ensures.rest) (left_all 6 _);
+      at = rw z (omega arith);
+      wrote = rw (z, rows_none) (wrote_none a.out.now a.c.at (omega (arith, c.requires.rows_bound)));
+    }
 
-pub put_row-next-requires : goal.put_row-next-requires
-put_row-next-requires c =
+pub put_row-c-requires : goal.put_row-c-requires
+put_row-c-requires c =
     let a = c.args in
-    let l = c.loop-k in
+    let i = c.loop-row.invariant in
     let p = c.requires in
-    let h : l.k < row_count (bare a.rows.now) = omega arith in
-    let b = ins_room a.rows.now l.k h in
-    (omega (arith, l.invariant.1, l.invariant.2.kept, b, p.rows_bound), omega (arith, l.invariant.1, b, p.rows_bound), p.k_bound l.k h)
+    let k = length c.loop-row.yielded in
+    let s = c.in-Some.ensures.steps in
+    let q = chunk_of 6 k a.rows.now _ c.in-Some.row.now c.next.new.self.rest.now (omega arith) i.left s.1.0 (s.1.1 ∙ i.size) in
+    let h : k < row_count (bare a.rows.now) = omega (arith, q.inside) in
+    let b = ins_room a.rows.now k h in
+    rw (q.at 1 (omega arith), q.at 2 (omega arith)) (omega (arith, i.at, i.wrote.kept, b, p.rows_bound), omega (arith, i.at, b, p.rows_bound), p.k_bound k h)
 
-pub loop-k-preserved : goal.loop-k-preserved
-loop-k-preserved c =
-    let a = c.args in
-    let l = c.loop-k in
-    let q = c.put_row-next in (
-      omega arith,
-      omega (arith, q.ensures.1, l.invariant.1, ins_longer a.rows.now l.k),
-      rw (ins_more a.rows.now l.k, each_append (digits 5) (first_ins a.rows.now l.k) (row_at a.rows.now l.k)) (wrote_append l.invariant.2 q.ensures.0),
-    )
-
-pub shape_of-out : goal.shape_of-out
-shape_of-out c = c.loop-k.invariant.2.kept
+pub loop-row-preserved : goal.loop-row-preserved
+loop-row-preserved c =
+    let r = c.args.rows.now in
+    let i = c.loop-row.invariant in
+    let k = length c.loop-row.yielded in
+    let s = c.in-Some.ensures.steps in
+    let q = chunk_of 6 k r _ c.in-Some.row.now c.next.new.self.rest.now (omega arith) i.left s.1.0 (s.1.1 ∙ i.size) in
+    let e = rw (q.at 1 (omega arith), q.at 2 (omega arith)) at c.put_row-c.ensures in
+    rw one_more (record {
+      size = s.0 ∙ i.size;
+      left = q.next;
+      at = omega (arith, e.1, i.at, ins_longer r k);
+      wrote = rw (ins_more r k, each_append (digits 5) (first_ins r k) (row_at r k)) (wrote_append i.wrote e.0);
+    })
 
 pub returns : goal.returns
 returns c =
-    let l = c.loop-k in
     let r = c.args.rows.now in
-    let e : l.k ≡ row_count (bare r) = omega arith in
-    let i = rw e at l.invariant in
-    (rw (← ins_all r) i.2, rw (← ins_all r) i.1)
+    let i = c.loop-row.invariant in
+    let e : length c.loop-row.yielded ≡ row_count (bare r) = left_end 6 _ r _ i.left (omega (arith, i.size, c.in-None.ensures.steps.1.0)) in
+    let w = rw (ap (first_ins r) e ∙ ins_all r) at i in
+    (w.wrote, w.at)

@@ -9,4 +9,4 @@ returns c =
     let p1 = c.put-k in
     let p2 = c.put in
     let a = c.args in
-    (rw (← ref_code a.w a.code c.requires.3) (wrote_append p1.ensures.0 p2.ensures.0), omega (arith, p1.ensures.1, p2.ensures.1))
+    (rw (← ref_code a.w a.code c.requires.3, ← c.from.ensures, ← c.from-2.ensures) (wrote_append p1.ensures.0 p2.ensures.0), omega (arith, p1.ensures.1, p2.ensures.1))

@@ -1,5 +1,4 @@
--- `writing::put_refs` meets its contract.
-use Prim.Native.Nat.{◌+◌, ◌-◌, ◌*◌, ◌≤◌}
+use Prim.Native.Nat.{◌+◌, ◌*◌}
 use mathlib.Core.Path.{◌≡◌}
 use Rattle.bits.specs.Fields.{Wrote}
 use Rattle.reply.specs.Write.{ref_bits, each}
@@ -7,8 +6,8 @@ use Rattle.reply.specs.inner.Decode.{ref_width}
 use Rattle.writing.specs.inner.Codes.{refs_at}
 use Rattle.writing.proofs.put_refs.Given as goal
 
-abbrev pub invariant-loop-e : goal.invariant-loop-e
-invariant-loop-e l = (l.e ≤ l.count) × (l.at ≡ l.initial.at + ref_width l.w * l.e) × Wrote l.initial.out l.out l.initial.at l.at (each (ref_bits l.w) (refs_at l.work l.from l.e))
-
-abbrev pub decreases-loop-e : goal.decreases-loop-e
-decreases-loop-e l = l.count - l.e
+abbrev pub invariant-loop-code : goal.invariant-loop-code
+invariant-loop-code l = record {
+  at : l.c.at ≡ l.initial.c.at + ref_width l.w * l.code-index;
+  wrote : Wrote l.initial.out l.out l.initial.c.at l.c.at (each (ref_bits l.w) (refs_at l.codes 0 l.code-index));
+}

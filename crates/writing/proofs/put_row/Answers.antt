@@ -4,22 +4,22 @@ use Rattle.bits.proofs.Laws.{wrote_none}
 use Rattle.writing.proofs.Codes.{row_other, row_one, rows_none, rows_one}
 use Rattle.writing.proofs.put_row.Goals as goal
 
-pub returns-then-kind-ne1 : goal.returns-then-kind-ne1
-returns-then-kind-ne1 c =
+pub returns-else-kind : goal.returns-else-kind
+returns-else-kind c =
     let a = c.args in
-    let e = row_other a.kind a.fragment c.if-kind-ne1.true in
+    let e = row_other a.kind a.fragment c.if-kind.false in
     (rw (e, rows_none) (wrote_none a.out.now a.c.at (omega (arith, c.requires.0))), rw e (omega arith))
 
 pub put-requires : goal.put-requires
 put-requires c =
     let a = c.args in
-    let e = row_one a.kind a.fragment c.if-kind-ne1.false in
+    let e = row_one a.kind a.fragment c.if-kind.true in
     let p = c.requires in
-    (rw e at p.0, p.1, omega arith, p.2 c.if-kind-ne1.false)
+    (rw e at p.0, p.1, omega arith, p.2 c.if-kind.true)
 
-pub returns : goal.returns
-returns c =
+pub returns-then-kind : goal.returns-then-kind
+returns-then-kind c =
     let a = c.args in
-    let e = row_one a.kind a.fragment c.if-kind-ne1.false in
+    let e = row_one a.kind a.fragment c.if-kind.true in
     let q = c.put in
     (rw (e, rows_one) q.ensures.0, rw e q.ensures.1)

@@ -1,42 +1,51 @@
-use Prim.Native.Nat.{◌+◌, ◌*◌, ◌<◌}
-use mathlib.Core.Path.{◌≡◌}
+use Prim.Native.Nat.{◌/◌}
+use mathlib.Core.Path.{◌≡◌, ◌∙◌}
 use native.Mathlib.Omega.{arith}
+use lib.ListN.{length}
 use Rattle.bits.proofs.Laws.{wrote_none, wrote_append}
 use Rattle.reply.specs.inner.Decode.{step_width}
-use Rattle.reply.proofs.Judge.{next_place, first_place, room_here}
-use Rattle.writing.proofs.Codes.{steps_none, steps_more}
+use Rattle.reply.proofs.Judge.{next_place, first_place}
+use Rattle.writing.proofs.Chunks.{left_all, chunk_of, one_more, left_end}
+use Rattle.writing.proofs.Codes.{steps_none, step_here, code_here}
 use Rattle.writing.proofs.put_steps.Goals as goal
 
-pub loop-i-init : goal.loop-i-init
-loop-i-init c =
+pub loop-step-init : goal.loop-step-init
+loop-step-init c =
     let a = c.args in
-    (omega arith, first_place (step_width a.w) a.c.at, rw (steps_none a.w a.work.now a.from) (wrote_none a.out.now a.c.at (omega (arith, c.requires.count_bound))))
+    record {
+      size = cc;
+      left = rw (c.into_iter-step-iterator.ensures.into_iter_gives, c.chunks_exact-step-items.ensures.rest) (left_all 3 _);
+      at = first_place (step_width a.w) a.c.at;
+      wrote = rw (steps_none a.w a.steps.now 0) (wrote_none a.out.now a.c.at (omega (arith, c.requires.room)));
+    }
 
-pub put_step-next-requires : goal.put_step-next-requires
-put_step-next-requires c =
+pub put_step-c-requires-clause-good : goal.put_step-c-requires-clause-good
+put_step-c-requires-clause-good c =
     let a = c.args in
-    let l = c.loop-i in
-    let p = c.requires in
-    let h : l.i < a.count = omega arith in
-    let b = room_here (step_width a.w) a.c.at l.i a.count (a.c.at + step_width a.w * a.count) h (omega arith) in
-    let g = p.count_in_bounds.1 l.i h in
-    record { w_bound = (omega (arith, l.invariant.1, l.invariant.2.kept, b, p.count_bound), omega (arith, l.invariant.1, b, p.count_bound), p.count_bound.2); op_bound = (g.op, g.left, g.right, g.single) }
+    let i = c.loop-step.invariant in
+    let k = length c.loop-step.yielded in
+    let s = c.in-Some.ensures.steps in
+    let q = chunk_of 3 k a.steps.now _ c.in-Some.step.now c.next.new.self.rest.now (omega arith) i.left s.1.0 (s.1.1 ∙ i.size) in
+    (s.1.1 ∙ i.size, code_here a.w k a.steps.now c.in-Some.step.now _ q (c.requires.good k (omega (arith, q.inside))))
 
-pub loop-i-preserved : goal.loop-i-preserved
-loop-i-preserved c =
+pub loop-step-preserved : goal.loop-step-preserved
+loop-step-preserved c =
     let a = c.args in
-    let l = c.loop-i in
-    let q = c.put_step-next in (
-      omega arith,
-      omega (arith, q.ensures.1, l.invariant.1, next_place (step_width a.w) a.c.at l.i),
-      rw (steps_more a.w a.work.now a.from l.i) (wrote_append l.invariant.2 q.ensures.0),
-    )
-
-pub shape_of-out : goal.shape_of-out
-shape_of-out c = c.loop-i.invariant.2.kept
+    let i = c.loop-step.invariant in
+    let k = length c.loop-step.yielded in
+    let s = c.in-Some.ensures.steps in
+    let q = chunk_of 3 k a.steps.now _ c.in-Some.step.now c.next.new.self.rest.now (omega arith) i.left s.1.0 (s.1.1 ∙ i.size) in
+    let e = c.put_step-c.ensures in
+    rw one_more (record {
+      size = s.0 ∙ i.size;
+      left = q.next;
+      at = omega (arith, e.1, i.at, next_place (step_width a.w) a.c.at k);
+      wrote = rw (step_here a.w k a.steps.now c.in-Some.step.now _ q) (wrote_append i.wrote e.0);
+    })
 
 pub returns : goal.returns
 returns c =
-    let l = c.loop-i in
-    let e : l.i ≡ c.args.count = omega arith in
-    (rw e at l.invariant.2, rw e at l.invariant.1)
+    let i = c.loop-step.invariant in
+    let e : length c.loop-step.yielded ≡ length c.args.steps.now / 3 = left_end 3 _ c.args.steps.now _ i.left (omega (arith, i.size, c.in-None.ensures.steps.1.0)) in
+    let w = rw e at i in
+    (w.wrote, w.at)

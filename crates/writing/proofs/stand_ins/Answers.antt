@@ -1,28 +1,32 @@
-use mathlib.Core.Path.{◌≡◌, refl}
+use mathlib.Core.Path.{◌≡◌, refl, ap, ◌∙◌}
 use native.Mathlib.Omega.{arith}
-use Rattle.writing.specs.inner.Codes.{bare}
+use lib.Dec.{eqb}
+use mir.Val.{bool_byte}
+use lib.ListN.{length}
 use Rattle.meaning.specs.Fragment.{num, row_count}
-use Rattle.writing.proofs.Codes.{row_few, ins_none, ins_longer, ins_all}
+use Rattle.writing.specs.inner.Codes.{bare, row_in}
+use Rattle.writing.proofs.Chunks.{left_all, chunk_of, one_more, left_end}
+use Rattle.writing.proofs.Codes.{row_few, row_long, ins_none, ins_longer, ins_all, first_ins}
 use Rattle.writing.proofs.stand_ins.Goals as goal
 
-pub loop-k-init : goal.loop-k-init
-loop-k-init c = (omega arith, rw (ins_none c.args.rows.now) refl, omega arith)
+pub loop-row-init : goal.loop-row-init
+loop-row-init c = record { size = cc; left = rw (c.into_iter-row-iterator.ensures.into_iter_gives, c.chunks_exact-row-items.ensures.rest) (left_all 6 _); so_far = rw (ins_none c.args.rows.now) refl; few = omega arith }
 
-pub overflow_add-n : goal.overflow_add-n
-overflow_add-n c =
+pub loop-row-preserved : goal.loop-row-preserved
+loop-row-preserved c =
     let r = c.args.rows.now in
-    let k = c.loop-k.k in
-    omega (arith, c.one_if-n.ensures, row_few (num (bare r) k 1) (num (bare r) k 2))
-
-pub loop-k-preserved : goal.loop-k-preserved
-loop-k-preserved c =
-    let r = c.args.rows.now in
-    let k = c.loop-k.k in
-    (omega arith, omega (arith, c.one_if-n.ensures, c.loop-k.invariant.1, ins_longer r k), omega (arith, c.one_if-n.ensures, row_few (num (bare r) k 1) (num (bare r) k 2)))
+    let k = length c.loop-row.yielded in
+    let i = c.loop-row.invariant in
+    let s = c.in-Some.ensures.steps in
+    let q = chunk_of 6 k r _ c.in-Some.row.now c.next.new.self.rest.now (omega arith) i.left s.1.0 (s.1.1 ∙ i.size) in
+    let kind = num (bare r) k 1 in
+    let here : c.from-n.result ≡ length (row_in kind (num (bare r) k 2)) = c.from-n.ensures ∙ ap (λ z. bool_byte (eqb z 1)) (q.at 1 (omega arith)) ∙ row_long kind (num (bare r) k 2) in
+    rw one_more (record { size = s.0 ∙ i.size; left = q.next; so_far = omega (arith, here, i.so_far, ins_longer r k); few = omega (arith, here, i.few, row_few kind (num (bare r) k 2)) })
 
 pub returns : goal.returns
 returns c =
-    let l = c.loop-k in
     let r = c.args.rows.now in
-    let e : l.k ≡ row_count (bare r) = omega arith in
-    rw (← ins_all r) (rw e at l.invariant.1)
+    let k = length c.loop-row.yielded in
+    let i = c.loop-row.invariant in
+    let e : k ≡ row_count (bare r) = left_end 6 k r _ i.left (omega (arith, i.size, c.in-None.ensures.steps.1.0)) in
+    i.so_far ∙ ap (λ z. length (first_ins r z)) e ∙ ap length (ins_all r)

@@ -1,14 +1,9 @@
--- `writing::stand_ins` meets its contract.
-use Prim.Native.Nat.{◌-◌, ◌≤◌}
+use Prim.Native.Nat.{◌≤◌}
 use mathlib.Core.Path.{◌≡◌}
 use lib.ListN.{length}
-use Rattle.writing.specs.inner.Codes.{bare}
-use Rattle.meaning.specs.Fragment.{row_count}
+use Rattle.writing.proofs.Chunks.{Left}
 use Rattle.writing.proofs.Codes.{first_ins}
 use Rattle.writing.proofs.stand_ins.Given as goal
 
-abbrev pub invariant-loop-k : goal.invariant-loop-k
-invariant-loop-k l = (l.k ≤ row_count (bare l.rows)) × (l.n ≡ length (first_ins l.rows l.k)) × (l.n ≤ l.k)
-
-abbrev pub decreases-loop-k : goal.decreases-loop-k
-decreases-loop-k l = row_count (bare l.rows) - l.k
+abbrev pub invariant-loop-row : goal.invariant-loop-row
+invariant-loop-row l = record { size : l.row-iterator.size ≡ 6; left : Left 6 (length l.yielded) l.rows l.row-iterator.rest.now; so_far : l.n ≡ length (first_ins l.rows (length l.yielded)); few : l.n ≤ length l.yielded }

@@ -2,11 +2,8 @@
 use mathlib.Core.Bool.{false}
 use lib.ListN.{replicate}
 use Rattle.bits.specs.Fields.{Wrote}
-use Prim.Native.Nat.{◌-◌, ◌≤◌}
+use Prim.Native.Nat.{◌-◌}
 use Rattle.bits.proofs.Cursor.pad.Given as goal
 
 abbrev pub invariant-loop-at : goal.invariant-loop-at
-invariant-loop-at l = (l.initial.at ≤ l.at) × (l.at ≤ l.to) × Wrote l.initial.buf l.buf l.initial.at l.at (replicate (l.at - l.initial.at) false)
-
-abbrev pub decreases-loop-at : goal.decreases-loop-at
-decreases-loop-at l = l.to - l.at
+invariant-loop-at l = Wrote l.initial.buf l.buf l.initial.at l.at (replicate (l.at - l.initial.at) false)

@@ -1,24 +1,28 @@
-use Rattle.meaning.proofs.Numbers.{says_ltb}
-use Rattle.question.proofs.Codes.{self_rule, word_rule, no_rule, child_rule, below_rule, not_rule, two_rule}
+use native.Mathlib.Omega.{arith}
+use borrow.Author.Tests.{ltb-true, ltb-false, leb-true, leb-false}
+use Rattle.meaning.specs.Says.{aye}
+use Rattle.meaning.proofs.Numbers.{says_ltb, says_leb}
+use Rattle.question.proofs.Codes.{self_rule, word_rule, one_rule, two_rule, no_rule}
 use Rattle.question.proofs.rules.entry_ok.Goals as goal
+use Rattle.meaning.proofs.Says.{says_by, both_then, both_else}
 
-pub returns-then-kind-eq0 : goal.returns-then-kind-eq0
-returns-then-kind-eq0 c = self_rule _ _ _ _ _ c.if-kind-eq0.true
+pub returns-in_default : goal.returns-in_default
+returns-in_default c = no_rule _ _ _ _ c.in_default.ensures.1
 
-pub returns-then-kind-lt3 : goal.returns-then-kind-lt3
-returns-then-kind-lt3 c = word_rule _ _ _ _ _ c.if-kind-eq0.false c.if-kind-lt3.true c.word_ok.ensures
+pub returns-in-Itself : goal.returns-in-Itself
+returns-in-Itself c = self_rule _ _ _ _ c.in-Ok.kind c.in-Ok.ensures c.in-Itself.is (aye tt)
 
-pub returns-then-kind-gt8 : goal.returns-then-kind-gt8
-returns-then-kind-gt8 c = no_rule _ _ _ _ _ c.if-kind-gt8.true
+pub returns-then-b-le64 : goal.returns-then-b-le64
+returns-then-b-le64 c = rw (← c.from-a.ensures, ← c.from-b.ensures) (word_rule _ _ _ _ c.in-Ok.kind c.in-Ok.ensures c.in-Label.is (both_then (omega arith) (says_leb _ _)))
 
-pub returns-then-kind-eq3 : goal.returns-then-kind-eq3
-returns-then-kind-eq3 c = child_rule _ _ _ _ _ c.if-kind-eq3.true (says_ltb _ _)
+pub returns-else-b-le64 : goal.returns-else-b-le64
+returns-else-b-le64 c = rw (← c.from-a.ensures, ← c.from-b.ensures) (word_rule _ _ _ _ c.in-Ok.kind c.in-Ok.ensures c.in-Label.is (both_else (λ h. omega arith) (says_leb _ _)))
 
-pub returns-then-kind-eq5 : goal.returns-then-kind-eq5
-returns-then-kind-eq5 c = below_rule _ _ _ _ _ c.if-kind-eq5.true (says_ltb _ _)
+pub returns-in-Child : goal.returns-in-Child
+returns-in-Child c = rw (← c.from-a.ensures, ← c.from-b.ensures) (one_rule _ _ _ _ c.in-Ok.kind c.in-Ok.ensures c.in-Child.is (says_ltb _ _))
 
-pub returns-then-kind-eq8 : goal.returns-then-kind-eq8
-returns-then-kind-eq8 c = not_rule _ _ _ _ _ c.if-kind-eq8.true (says_ltb _ _)
+pub returns-then-a-i : goal.returns-then-a-i
+returns-then-a-i c = rw (← c.from-a.ensures, ← c.from-b.ensures) (two_rule _ _ _ _ c.in-Ok.kind c.in-Ok.ensures c.in-At.is (says_by _ (λ e. (omega arith, omega (arith, e, ltb-true, leb-true))) (λ e w. omega (arith, e, w.1, ltb-false, leb-false))))
 
-pub returns : goal.returns
-returns c = two_rule _ _ _ _ _ c.if-kind-lt3.false c.if-kind-gt8.false c.if-kind-eq3.false c.if-kind-eq5.false c.if-kind-eq8.false c.both_before.ensures
+pub returns-else-a-i : goal.returns-else-a-i
+returns-else-a-i c = rw (← c.from-a.ensures, ← c.from-b.ensures) (two_rule _ _ _ _ c.in-Ok.kind c.in-Ok.ensures c.in-At.is (both_else (λ h. omega arith) (says_ltb _ _)))

@@ -1,11 +1,8 @@
 -- `reply::judging::ins_ok` meets its contract.
-use Prim.Native.Nat.{ℕ, ◌-◌, ◌≤◌, ◌<◌}
+use Prim.Native.Nat.{ℕ, ◌<◌}
 use Rattle.reply.specs.inner.Checked.{InGood}
 use Rattle.reply.proofs.Judge.{Met}
 use Rattle.reply.proofs.judging.ins_ok.Given as goal
 
 abbrev pub invariant-loop-i : goal.invariant-loop-i
-invariant-loop-i l = (l.i ≤ l.count) × Met l.s l.i l.met × ((j : ℕ) → j < l.i → InGood l.s l.fragment j)
-
-abbrev pub decreases-loop-i : goal.decreases-loop-i
-decreases-loop-i l = l.count - l.i
+invariant-loop-i l = Met l.s l.i l.met × ((j : ℕ) → j < l.i → InGood l.s l.fragment j)

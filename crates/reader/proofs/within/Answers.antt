@@ -1,8 +1,0 @@
-use borrow.Author.Tests.{le-leb, lt-leb}
-use Rattle.reader.proofs.within.Goals as goal
-
-pub returns-then-low-b : goal.returns-then-low-b
-returns-then-low-b c = rw (le-leb c.args.low _ c.if-low-b.true)
-
-pub returns-else-low-b : goal.returns-else-low-b
-returns-else-low-b c = rw (lt-leb c.args.low _ c.if-low-b.false)
