@@ -6,7 +6,7 @@ use native.Mathlib.Numerals.{one-add}
 use native.Mathlib.Omega.{arith}
 use mathlib.Core.Bool.{Bool, true, false}
 use mathlib.Core.List.{List, [], ◌∷◌, ◌++◌}
-use lib.ListN.{length, replicate, replicate-append-replicate, length-append}
+use lib.ListN.{length, replicate, length-append}
 use lib.Pow.{pow_pos, pow-add, shr-shr, split, high, mod-pow-add}
 use lib.Arith.{digits_lt}
 use Rattle.bits.specs.Bits.{bit, worth, digits, number}
@@ -117,9 +117,6 @@ digits_next w i v h =
     digits_add i 1 u ∙ ap₂ ◌++◌ (ap (digits i) (rw (shr-shr v (w - (i + 1)) 1, e) refl)) (digits_one u)
 
 -- n zeros and m zeros more
-pub zeros_more : (n m : ℕ) → replicate (n + m) false ≡ replicate n false ++ replicate m false
-zeros_more n m = sym (replicate-append-replicate n m false)
-
 pub digits_zero : (w : ℕ) → digits w 0 ≡ replicate w false
 unfolding digits bit
 digits_zero zero = refl

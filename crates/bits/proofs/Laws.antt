@@ -6,13 +6,13 @@ use native.Mathlib.Numerals.{add-one}
 use native.Mathlib.Omega.{arith}
 use mathlib.Core.Bool.{Bool, false}
 use mathlib.Core.List.{List, [], ◌∷◌, ◌++◌, append_assoc}
-use lib.ListN.{length, take, drop, replicate, length-replicate, length-append, length-take, length-drop, take-append-drop}
+use lib.ListN.{length, take, drop, replicate, length-replicate, length-append, length-take, length-drop, take-append-drop, replicate-append-replicate}
 use lib.Seq.{take-length, take_all, take_at, drop_at, length-take-le, drop-drop, take-add}
 use Rattle.bits.specs.Bits.{bit, worth, digits, number}
 use Rattle.bits.specs.Fields.{bits_of, bits_at, field_at, Wrote}
 use Rattle.bits.specs.inner.Stand.{BitsStand}
 use Rattle.bits.specs.Promise.{TakePut}
-use Rattle.bits.proofs.Digits.{digits_length, number_lt, number_append, number_digits, digits_number_at, digits_next, number_one, zeros_more}
+use Rattle.bits.proofs.Digits.{digits_length, number_lt, number_append, number_digits, digits_number_at, digits_next, number_one}
 use Rattle.bits.proofs.Byte.{append_front, append_back, bits_of_length}
 
 -- ---- how writes compose
@@ -155,12 +155,12 @@ pub blank_bit : {s : List ℕ} {at next : ℕ} (n k : ℕ) → k < n → BitsSta
 blank_bit {s} {at} {next} n k h p =
     let e : n ≡ k + 1 + (n - (k + 1)) = omega arith in
     let q : BitsStand s at next ((replicate k false ++ (false ∷ [])) ++ replicate (n - (k + 1)) false) =
-    rw (e, zeros_more (k + 1) (n - (k + 1)), zeros_more k 1) at p in
+    rw (e, ← replicate-append-replicate (k + 1) (n - (k + 1)) false, ← replicate-append-replicate k 1 false) at p in
     let q' = stand_split (at + k + 1) (replicate k false ++ (false ∷ [])) (replicate (n - (k + 1)) false) (simp (length-append, length-replicate) (omega arith)) q in
     (stand_split (at + k) (replicate k false) (false ∷ []) (rw length-replicate refl) q'.0).1.there
 
 pub bits_blank : (s : List ℕ) (at n : ℕ) → at + n ≤ 8 * length s → ((k : ℕ) → k < n → bits_at s (at + k) 1 ≡ false ∷ []) → BitsStand s at (at + n) (replicate n false)
 bits_blank s at zero h f = rw add-zero (stand_none s at (omega arith))
 bits_blank s at (suc n) h f =
-    let e : replicate n false ++ (false ∷ []) ≡ replicate (suc n) false = sym (zeros_more n 1) ∙ ap (λ m. replicate m false) (add-one n) in
+    let e : replicate n false ++ (false ∷ []) ≡ replicate (suc n) false = replicate-append-replicate n 1 false ∙ ap (λ m. replicate m false) (add-one n) in
     rw (← e, add-suc) (stand_append (bits_blank s at n (omega arith) (λ k l. f k (omega arith))) (record { end = omega arith; room = omega arith; there = f n (omega arith) }))

@@ -7,16 +7,16 @@ ghost use Rattle.bits.specs.Bits.{digits};
 ghost use Rattle.bits.specs.Fields.{bits_at, field_at, Wrote};
 ghost use Rattle.bits.specs.inner.Stand.{BitsStand};
 
-// A place in a run of bits.
+// A place in a run of bits. A cursor goes by value and its reading hands back the field and the next cursor: the form that the scope asks for.
 #[derive(Clone, Copy)]
 pub struct Cursor {
     pub at: usize,
 }
 
-// A number that was read, and the place after it.
+// What was read, and the place after it.
 #[derive(Clone, Copy)]
-pub struct Field {
-    pub value: u32,
+pub struct Field<T> {
+    pub value: T,
     pub next: Cursor,
 }
 
@@ -58,7 +58,7 @@ impl Cursor {
     }
 
     // The field of `width` bits from here on.
-    pub fn take(self, s: &[u8], width: usize) -> Field
+    pub fn take(self, s: &[u8], width: usize) -> Field<u32>
         requires { (self.at + width ≤ 8 * length s.now) × (self.at + width < 2 ^ 64) × (width ≤ 32) }
         ensures { (result.value ≡ field_at s.now self.at width) × (result.next.at ≡ self.at + width) }
     {

@@ -1,5 +1,5 @@
 -- THE ANSWER, by the way that the code took.
-use Prim.Native.Nat.{ℕ, ◌+◌, ◌*◌, ◌<◌, ◌≤◌}
+use Prim.Native.Nat.{ℕ, ◌+◌, ◌*◌, ◌/◌, ◌<◌, ◌≤◌}
 use native.Mathlib.Omega.{arith}
 use native.Mathlib.Nat.{zero-add, mul-le-mul_right}
 use mathlib.Core.Path.{◌≡◌, refl, sym, ap, ◌∙◌, subst}
@@ -16,7 +16,7 @@ use Rattle.meaning.specs.Reply.{laid_run, laid_down}
 use Rattle.meaning.specs.Run.{Vectors}
 use Rattle.question.specs.declared.List as L
 use Rattle.question.specs.Listed.{Keeps, listed}
-use Rattle.writing.specs.inner.Codes.{FormulaIn, FrontIn, row_ins, reply_in, Written}
+use Rattle.writing.specs.inner.Codes.{FormulaIn, FrontIn, HeldIn, cut, row_ins, reply_in, reply_held, Written}
 use Rattle.reply.specs.inner.Decode as Read
 use Rattle.reply.proofs.Lists.{tab_length}
 use Rattle.reply.proofs.Round.{size_is}
@@ -27,14 +27,11 @@ use Rattle.depot.specs.inner.Worked.{Fit, Early, Worked}
 use Rattle.depot.specs.Number.{number_of, refusal_number, size_of}
 use Rattle.depot.specs.Answer.{Call, laid, bytes, memory_after, Refusal, Answered}
 use Rattle.formula.specs.inner.Made.{Laid, Within}
-use Rattle.writing.specs.inner.Promise.{LaidReply}
+use Rattle.writing.specs.inner.Promise.{LaidReply, CutReply}
 use Rattle.writing.proofs.Rows.{row_ins_lem, front_in}
 use Rattle.writing.proofs.LaidIn.{laid_in}
+use Rattle.writing.proofs.Cut.{cut_held}
 use Rattle.question.proofs.Listed.{listed_length}
-
--- at most 512 rows of at most 32 entries
-pub cells_few : (part : ℕ) (F : Fragment) (l : L.List) (t : Bytes) → Sound part F → Keeps l t → row_count F * l.count ≤ 16384
-cells_few part F l t s k = omega (arith, mul-le-mul_right l.count s.rows_most, k.most)
 
 module _ (c : Call) {room : ℕ} (fit : Fit c room) where
   abbrev l : L.List
@@ -82,6 +79,10 @@ module _ (c : Call) {room : ℕ} (fit : Fit c room) where
         d_inside = omega (arith, count, cells);
       })
 
+  -- the same of steps, V and D cut from it
+  cuts : {m : List ℕ} {k : ℕ} → 4 * size + 12288 ≤ length m → Within size l.count o m k → CutReply 12 c.number c.part l.count F.rows m (4 * size) k 0 (2 * size)
+  cuts {m} {k} h w = cut_held 12 c.number c.part l.count F.rows m (4 * size) k 0 (2 * size) (subst (λ k. FormulaIn 12 m (4 * size) k 0 (2 * size) l.count) (sym w.count) (kept h w.few w.laid).0)
+
   bytes_length : length (bytes c) ≡ Read.size 12 (length (row_ins F.rows)) (length o.st) l.count
   unfolding laid_down
   bytes_length = size_is 12 (laid c) (tab_length _ _ _) (tab_length _ _ _) ∙ (λ i. Read.size 12 (length (ins i)) (length o.st) (listed_length l t i))
@@ -107,24 +108,25 @@ module _ (c : Call) {room : ℕ} (fit : Fit c room) where
     late_short w e q k = record { late = passed w.few (refused (λ u. omega (arith, need_is w e q, k))); size_is = refl; buffer = refl }
 
     pub late_done : {n k ins need : ℕ} {m out' : List ℕ} → 4 * size + 12288 ≤ length m → Within size l.count o m k → ins ≡ length (row_ins F.rows) → need ≡ Read.size 12 ins k l.count → need ≤ length out
-        → Written 12 (reply_in c.number c.part l.count F.rows m (4 * size) k 0 (2 * size)) out out' n → Worked c out (Ok n) out'
+        → Written 12 (reply_held c.number c.part F.rows (cut m (4 * size) (3 * k)) (cut m 0 l.count) (cut m (2 * size) l.count)) out out' n → Worked c out (Ok n) out'
     unfolding laid_down
     late_done {n} {k} {m = m} {out'} h w e p q x = record { late = passed w.few (passed (omega (arith, need_is w e p, q)) granted); size_is = y.size_is; buffer = y.bytes }
       where
         y : Written 12 (laid c) out out' n
-        y = subst (λ r. Written 12 r out out' n) (ap (λ k. reply_in c.number c.part l.count F.rows m (4 * size) k 0 (2 * size)) w.count ∙ (kept h w.few w.laid).1) x
+        y = subst (λ r. Written 12 r out out' n) ((cuts h w).reply ∙ ap (λ k. reply_in c.number c.part l.count F.rows m (4 * size) k 0 (2 * size)) w.count ∙ (kept h w.few w.laid).1) x
 
   -- what writing asks
   pub size_asks : {m : List ℕ} {k ins : ℕ} → Within size l.count o m k → ins ≡ length (row_ins F.rows) → (12 ≤ 14) × (l.count ≤ 32) × (ins < 32) × (k ≤ 4096)
   size_asks w e = (omega arith, keeps.most, omega (arith, e, few_ins), omega (arith, w.few, w.count))
 
   pub write_asks : {m : List ℕ} {k ins need most : ℕ} → 4 * size + 12288 ≤ length m → Within size l.count o m k → ins ≡ length (row_ins F.rows) → need ≡ Read.size 12 ins k l.count → need ≤ most
-      → (12 ≤ 14) × FrontIn c.part l.count k F.rows × FormulaIn 12 m (4 * size) k 0 (2 * size) l.count × (Read.size 12 (length (row_ins F.rows)) k l.count ≤ most)
+      → (12 ≤ 14) × FrontIn c.part (length (cut m 0 l.count)) (length (cut m (4 * size) (3 * k)) / 3) F.rows × HeldIn 12 (cut m (4 * size) (3 * k)) (cut m 0 l.count) (cut m (2 * size) l.count)
+      × (Read.size 12 (length (row_ins F.rows)) (length (cut m (4 * size) (3 * k)) / 3) (length (cut m 0 l.count)) ≤ most)
   write_asks {m} {k} {most = most} h w e q fits = (
     omega arith,
-    subst (λ k. FrontIn c.part l.count k F.rows) (sym w.count) (front_in c.part F sound l.count (length o.st) (omega (arith, keeps.some_entry)) keeps.most w.few),
-    subst (λ k. FormulaIn 12 m (4 * size) k 0 (2 * size) l.count) (sym w.count) (kept h w.few w.laid).0,
-    subst (λ x. Read.size 12 x k l.count ≤ most) e (subst (λ x. x ≤ most) q fits),
+    rw ((cuts h w).long, (cuts h w).count) (subst (λ k. FrontIn c.part l.count k F.rows) (sym w.count) (front_in c.part F sound l.count (length o.st) (omega (arith, keeps.some_entry)) keeps.most w.few)),
+    (cuts h w).held,
+    rw ((cuts h w).long, (cuts h w).count) (subst (λ x. Read.size 12 x k l.count ≤ most) e (subst (λ x. x ≤ most) q fits)),
   )
 
 -- after 8 and 9, and on success, work memory is all zero

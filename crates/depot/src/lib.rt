@@ -8,10 +8,11 @@ ghost use Rattle.depot.specs.Answer.{call, Answered};
 ghost use Rattle.depot.specs.Number.{refusal_number, size_of};
 ghost use Rattle.depot.specs.declared.Refusal.TheVariants.{TooManySteps};
 
-use formula::{TooMany, formula};
-use fragment::fragment_ok;
+use formula::{Source, TooMany, formula};
+use fragment::Lent;
 use question::List;
 use question::rules::list_ok;
+use reply::WIDTH;
 use writing::{Held, reply_size, reply_write, stand_ins};
 
 // Why a depot refuses, by the numbers of refusal.
@@ -54,13 +55,10 @@ impl From<Result<usize, Refusal>> for Answer {
     }
 }
 
-// What a depot is asked: the list over its text, of the fragment with this number, for the question with that one.
+// What a depot is asked: the formula of a source, which is the fragment with this number, for the question with that one.
 #[derive(Clone, Copy)]
 struct Call<'a> {
-    text: &'a [u8],
-    list: List,
-    rows: &'a [u32],
-    pool: &'a [u8],
+    source: Source<'a>,
     fragment: u32,
     number: u32,
 }
@@ -70,14 +68,13 @@ impl<'a> Call<'a> {
     fn check(&self, room: usize) -> Result<(), Refusal>
         ensures { Checked (call_of self.now) room result }
     {
-        if self.number == 0 || !list_ok(self.list, self.text) {
+        if self.number == 0 || !list_ok(self.source.list, self.source.text) {
             return Err(Refusal::BadList);
         }
-        if !fragment_ok(self.rows, self.pool, self.fragment) {
+        if !self.source.fragment.ok(self.fragment) {
             return Err(Refusal::BadFragment);
         }
-        let cells = self.rows.len() / 6 * self.list.count;
-        if room < 4 * cells + 12288 {
+        if room < self.source.layout().need {
             return Err(Refusal::ShortWork);
         }
         Ok(())
@@ -88,22 +85,21 @@ impl<'a> Call<'a> {
         requires { Fit (call_of self.now) (length work.old) }
         ensures { Worked (call_of self.now) out.old result out.new }
     {
-        let steps = formula(self.list, self.text, self.rows, self.pool, work)?;
-        let entries = self.list.count;
-        let need = reply_size(12, entries, stand_ins(self.rows), steps);
+        let steps = formula(&self.source, work)?;
+        let entries = self.source.list.count;
+        let rows = self.source.fragment.rows;
+        let need = reply_size(WIDTH, entries, stand_ins(rows), steps);
         if out.len() < need {
             return Err(Refusal::ShortReply);
         }
-        let cells = self.rows.len() / 6 * entries;
+        let layout = self.source.layout();
+        let memory: &[u16] = work;
         let held = Held {
-            work,
-            from: 4 * cells,
-            steps,
-            v: 0,
-            d: 2 * cells,
-            entries,
+            steps: &memory[layout.steps..layout.steps + 3 * steps],
+            v: &memory[..entries],
+            d: &memory[layout.d..layout.d + entries],
         };
-        Ok(reply_write(out, 12, self.number, self.fragment, self.rows, held))
+        Ok(reply_write(out, WIDTH, self.number, self.fragment, rows, held))
     }
 }
 
@@ -120,16 +116,19 @@ pub fn depot_reply(
 ) -> Result<usize, Refusal>
     ensures { Answered (call list text.now (lent rows.now pool.now) fragment number) work.old out.old (refusal_number result) (size_of result) work.new out.new }
 {
-    let call = Call {
-        text,
+    let lent = Lent { rows, pool };
+    let source = Source {
         list,
-        rows,
-        pool,
+        text,
+        fragment: lent,
+    };
+    let call = Call {
+        source,
         fragment,
         number,
     };
     call.check(work.len())?;
-    let size = call.reply(work, out);
+    let outcome = call.reply(work, out);
     work.fill(0);
-    size
+    outcome
 }

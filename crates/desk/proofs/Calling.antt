@@ -3,17 +3,19 @@ use borrow.Rule.Slice.PartMut.{put_mid}
 use Prim.Native.Nat.{ℕ, zero, suc, ◌-◌, ◌≤◌, ◌<◌}
 use native.Mathlib.Omega.{arith}
 use native.Mathlib.Decide.{ℕ_discrete}
-use mathlib.Core.Path.{◌≡◌, refl, sym, ap, ◌∙◌, subst}
+use mathlib.Core.Path.{◌≡◌, refl, sym, ap, ap₂, ◌∙◌, subst}
 use mathlib.Core.Logic.{◌≢◌}
-use mathlib.Core.Bool.{Bool, true, false, ◌&&◌, cond, false≢true}
+use mathlib.Core.Bool.{Bool, true, false, cond, false≢true}
 use mathlib.Core.Option.{Option, none, some}
-use mathlib.Core.List.{List, ◌++◌}
-use lib.ListN.{length, drop, replicate}
+use mathlib.Core.List.{List, [], ◌∷◌, ◌++◌}
+use Rattle.std.specs.Array.{AllOfLen}
+use lib.ListN.{length, drop, get_or, replicate}
 use lib.Seq.{drop-drop}
 use Rattle.std.proofs.lemmas.List.{drop-replicate}
 use Rattle.meaning.specs.Bytes.{Bytes}
 use Rattle.meaning.specs.Algebra.{bool}
 use Rattle.meaning.specs.Reply.{Reply}
+use Rattle.meaning.proofs.Register.{and_both}
 use Rattle.meaning.specs.Solve.{Values, solved, solve, no_values, waiting, said, is_heard, all_heard, outcome}
 use Rattle.reply.specs.Read.{Is}
 use Rattle.reply.specs.inner.Decode.{decoded}
@@ -24,7 +26,7 @@ use Rattle.meaning.specs.Refused.{refused, passed, granted}
 use Rattle.whole.specs.Whole.{OpenRules, Judging, Heard, part_of, Opened}
 use Rattle.whole.specs.inner.Steps.{Judged, number_of as unfit_code}
 use Rattle.solving.specs.inner.Values.{AllHeard, kept, answer_of}
-use Rattle.desk.specs.Changed.{opened_as, noted, put_at}
+use Rattle.desk.specs.Changed.{fresh_record, opened_as, noted, put_at}
 use Rattle.desk.specs.Numbers.{number_of, refusal_of}
 use Rattle.desk.specs.declared.Refusal.{Refusal}
 use Rattle.desk.specs.declared.Refusal.TheVariants.{BadLayout, OldNumber, NoneOpen, NotAReply, OtherQuestion, Misfit, AlreadyHeard, StoreFull, NotWhole}
@@ -34,6 +36,21 @@ use Rattle.desk.specs.Calls.{Opens, Room, Why, Accepts, Held, said_of, AskRefusa
 use Rattle.whole.specs.declared.Question.{Question}
 use Rattle.whole.specs.declared.Record.{Record}
 use Rattle.whole.proofs.Pieces.{fragment_is, heard_or_not, judged_free, own_reply, was_open}
+
+-- ---- a fresh record
+pub zeros : (xs : List ℕ) (n : ℕ) → AllOfLen (λ x. x ≡ 0) xs n → xs ≡ replicate n 0
+zeros xs n a = go xs n a.long (λ i l. a.at i 0 l)
+  where
+    go : (xs : List ℕ) (n : ℕ) → length xs ≡ n → ((i : ℕ) → i < n → get_or xs i 0 ≡ 0) → xs ≡ replicate n 0
+    go [] zero e h = refl
+    go [] (suc n) e h = absurd (omega arith)
+    go (x ∷ xs) zero e h = absurd (omega arith)
+    go (x ∷ xs) (suc n) e h = ap₂ ◌∷◌ (h 0 (omega arith)) (go xs n (omega arith) (λ i l. h (suc i) (omega arith)))
+
+pub fresh_is : (last used number entries parts : ℕ) (layout heard place size : List ℕ) → last ≡ 0 → used ≡ 0 → number ≡ 0 → entries ≡ 0 → parts ≡ 0
+    → layout ≡ replicate 32 0 → heard ≡ replicate 32 0 → place ≡ replicate 32 0 → size ≡ replicate 32 0
+    → record { last = last; used = used; question = record { number = number; entries = entries; parts = parts; layout = layout; heard = heard; place = place; size = size } } ≡ fresh_record
+fresh_is a b c d e f g h i p q r s t u v w x = rw (p, q, r, s, t, u, v, w, x) refl
 
 -- ---- opening
 pub opened_as_lem : (layout l : Bytes) (entries number : ℕ) → l ≡ layout → record { last = number; used = 0; question = record { number = number; entries = entries; parts = length layout; layout = l ++ drop (length layout) (replicate 32 0); heard = replicate 32 0; place = replicate 32 0; size = replicate 32 0 } } ≡ opened_as layout entries number
@@ -127,10 +144,6 @@ module _ (q : Question) (store : Bytes) where
       go : Dec (Heard q f) → Heard q f
       go (yes h) = h
       go (no n) = absurd (false≢true (sym (ap is_heard (held_none f n)) ∙ e))
-
-  and_both : (a b : Bool) → a && b ≡ true → (a ≡ true) × (b ≡ true)
-  and_both true b e = (refl, e)
-  and_both false b e = absurd (false≢true e)
 
   each_heard : (k : ℕ) → all_heard (held_of q store) k ≡ true → (f : ℕ) → f < k → is_heard (held_of q store f) ≡ true
   unfolding all_heard

@@ -1,5 +1,6 @@
 -- THE NUMBERS that the calls' answers stand for (01, "Numbers of refusal, in order of checking"), and the record that an answer leaves.
 use Rattle.std.specs.Prelude.{ℕ, Result, Ok, Err}
+use Rattle.meaning.specs.Bytes.{Bytes, ascii}
 use Rattle.whole.specs.declared.Record.{Record}
 use Rattle.whole.specs.declared.Unfit.{Unfit}
 use Rattle.whole.specs.declared.Unfit.TheVariants as Unfits
@@ -34,6 +35,12 @@ abbrev pub said_code : Said → ℕ
 said_code Waiting = 0
 said_code No = 1
 said_code Yes = 2
+
+-- what is printed of it
+abbrev pub said_text : Said → Bytes
+said_text Waiting = ascii "waiting"
+said_text No = ascii "no"
+said_text Yes = ascii "yes"
 
 -- 0 where refused
 abbrev pub said_number : Result Said Refusal → ℕ

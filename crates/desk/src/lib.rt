@@ -2,14 +2,16 @@
 // Anyone may fill a record with anything: accepting and asking first judge record and store whole.
 #![tactic(auto)]
 
-ghost use Rattle.std.specs.Prelude.{◌≡◌, ◌+◌, ◌^◌, ◌≤◌, ◌<◌, length, IfOk};
+ghost use Rattle.std.specs.Prelude.{◌≡◌, ◌+◌, ◌^◌, ◌≤◌, ◌<◌, length, IfOk, Some};
+ghost use Rattle.std.specs.Fmt.{styled_text};
 ghost use Rattle.meaning.specs.Reply.{Reply};
 ghost use Rattle.reply.specs.Read.{Is};
-ghost use Rattle.desk.specs.Numbers.{number_of, refusal_number, record_after, said_number, refusal_of};
+ghost use Rattle.desk.specs.Numbers.{number_of, refusal_number, record_after, said_number, said_text, refusal_of};
 ghost use Rattle.desk.specs.Calls.{Opens, AskRefusal, Why, Accepts, Asks};
 ghost use Rattle.desk.specs.Changed.{fresh_record, opened_as, noted};
 
 use solving::{all_heard, answer};
+use std::fmt;
 use whole::{Question, Record, Unfit, judge, rules_ok, whole};
 
 // Why a call is refused; the discriminants are the numbers of refusal.
@@ -55,6 +57,20 @@ pub enum Said {
     Yes = 2,
 }
 
+impl fmt::Display for Said {
+    ghost output = { λ said. Some (said_text said) };
+
+    ghost styled_output = { λ said spec. Some (styled_text spec (said_text said)) };
+
+    fn fmt<W: fmt::Write>(&self, f: &mut fmt::Formatter<W>) -> fmt::Result {
+        f.pad(match self {
+            Said::Waiting => "waiting",
+            Said::No => "no",
+            Said::Yes => "yes",
+        })
+    }
+}
+
 // For C: a refusal's number (0: none), and the number of what is said (0 where refused).
 #[repr(C)]
 #[derive(Clone, Copy)]
@@ -73,7 +89,7 @@ impl From<Result<Said, Refusal>> for Asked {
                 said: said as u8,
             },
             Err(refusal) => Asked {
-                refusal: refusal as u8,
+                refusal: refusal.into(),
                 said: 0,
             },
         }
@@ -83,19 +99,7 @@ impl From<Result<Said, Refusal>> for Asked {
 pub fn desk_fresh() -> Record
     ensures { result ≡ fresh_record }
 {
-    Record {
-        last: 0,
-        used: 0,
-        question: Question {
-            number: 0,
-            entries: 0,
-            parts: 0,
-            layout: [0; 32],
-            heard: [0; 32],
-            place: [0; 32],
-            size: [0; 32],
-        },
-    }
+    Record::default()
 }
 
 // The record of a question that is just opened.
@@ -118,7 +122,7 @@ fn opened_as(layout: &[u8], entries: usize, number: u64) -> Record
     }
 }
 
-// Opening, by value.
+// Opening, by value. Each call has such a core that decides and answers, and a thin one over a lent record: the form that the scope asks for.
 pub fn opened(desk: Record, layout: &[u8], entries: usize, number: u32) -> Result<Record, Refusal>
     ensures { Opens desk layout.now entries number (refusal_number result) (record_after desk result) }
 {
@@ -152,7 +156,7 @@ fn ready(desk: Record, store: &[u8]) -> Result<(), Refusal>
     if !whole(desk, store) {
         return Err(Refusal::NotWhole);
     }
-    if desk.question.number == 0 {
+    if !desk.question.is_open() {
         return Err(Refusal::NoneOpen);
     }
     Ok(())
@@ -164,6 +168,7 @@ fn fragment_of(desk: Record, store: &[u8], s: &[u8]) -> Result<usize, Refusal>
     ensures fragment { IfOk result (λ f. (f < 32) × ((r : Reply) → Is 12 s.now r → f ≡ r.fragment)) }
 {
     ready(desk, store)?;
+    // Rust has no `From` of a `u32` to `usize`
     let fragment = judge(desk.question, s)?.fragment as usize;
     if desk.question.is_heard(fragment) {
         return Err(Refusal::AlreadyHeard);

@@ -1,6 +1,7 @@
 -- Stand-ins counted: a position is a count of the rows before.
 use Prim.Native.Nat.{ℕ, zero, suc, ◌+◌, ◌-◌, ◌*◌, ◌/◌, ◌<◌, ◌≤◌}
 use native.Mathlib.Omega.{arith}
+use native.Mathlib.Nat.{mul-le-mul_right}
 use mathlib.Core.Path.{◌≡◌, refl, sym, ap, ◌∙◌}
 use mathlib.Core.Bool.{Bool, true, false, cond}
 use mathlib.Core.List.{List, [], ◌∷◌, ◌++◌}
@@ -10,7 +11,10 @@ use Rattle.meaning.specs.Says.{Says}
 use Rattle.meaning.proofs.Says.{says_same}
 use Rattle.meaning.proofs.Numbers.{says_eqb}
 use Rattle.meaning.specs.Bound.{count}
-use Rattle.meaning.specs.Fragment.{Rows, rows_of}
+use Rattle.meaning.specs.Bytes.{Bytes}
+use Rattle.meaning.specs.Fragment.{Fragment, Sound, Rows, row_count, rows_of}
+use Rattle.question.specs.declared.List as L
+use Rattle.question.specs.Listed.{Keeps}
 use Rattle.meaning.specs.Reply.{stand_ins}
 use Rattle.writing.specs.inner.Codes.{bare, row_ins}
 use Rattle.formula.specs.inner.Flat.{stands}
@@ -55,3 +59,7 @@ count_most p (suc k) = go (p k) (count_most p k)
 pub ins_count : (rows : List ℕ) → length (row_ins rows) ≡ count (stands rows) (length rows / 6)
 unfolding row_ins
 ins_count rows = sym (count_is (rows_of (bare rows)) (length rows / 6))
+
+-- at most 512 rows of at most 32 entries
+pub cells_few : (part : ℕ) (F : Fragment) (l : L.List) (t : Bytes) → Sound part F → Keeps l t → row_count F * l.count ≤ 16384
+cells_few part F l t s k = omega (arith, mul-le-mul_right l.count s.rows_most, k.most)

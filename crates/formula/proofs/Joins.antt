@@ -6,9 +6,9 @@ use mathlib.Core.Path.{◌≡◌, refl, ap}
 use mathlib.Core.Logic.{◌⊎◌, inl, inr}
 use mathlib.Core.List.{List}
 use borrow.Author.Tests.{eq-eqb, ne_eqb}
-use Rattle.formula.specs.declared.Op.{Op}
-use Rattle.formula.specs.declared.Op.TheVariants.{And, Or, Not}
-use Rattle.formula.specs.contracts.Op.{the_type}
+use Rattle.reply.specs.declared.Op.{Op}
+use Rattle.reply.specs.declared.Op.TheVariants.{And, Or, Not}
+use Rattle.reply.specs.contracts.Op.{the_type}
 use denote.Enum.Declared.{tag_of}
 use Rattle.formula.specs.inner.Memory.{op_number}
 use Rattle.formula.specs.inner.Flat.{got, add_f, join_f}

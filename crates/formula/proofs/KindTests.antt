@@ -6,13 +6,13 @@ use mathlib.Core.List.{List}
 use lib.ListN.{get_or}
 use Rattle.meaning.specs.Bytes.{Bytes, word}
 use Rattle.meaning.specs.Fragment.{Fragment}
-use Rattle.formula.specs.declared.Entry as E
-use Rattle.formula.specs.inner.Memory.{IsEntry, Operands}
+use Rattle.question.specs.declared.entry.Entry as E
+use Rattle.formula.specs.inner.Memory.{Operands}
 use Rattle.formula.specs.inner.Flat.{St, got, join_f, value_f, test_f, enter_f, entry_f}
 use Rattle.question.specs.declared.List as L
 use Rattle.question.specs.declared.kind.Kind.{Kind}
 use Rattle.question.specs.declared.kind.Kind.TheVariants.{Itself, Label, Text, Child, At, Below, Or, And, Not}
-use Rattle.question.specs.inner.Kind.{code}
+use Rattle.question.specs.inner.Kind.{code, IsEntry}
 use Rattle.question.specs.Listed.{entry_of, placed, EntryRule, Keeps}
 
 rule_operands : {t : Bytes} {e i j : ℕ} (kind : Kind) → EntryRule t e (code kind) i j → Operands e kind i j
@@ -62,13 +62,13 @@ module _ (size base i j t : ℕ) (m : List ℕ) (n : ℕ) (kind : Kind) where
   both_value (inr e) = rw e refl
 
 module _ (l : L.List) (t : Bytes) (e : ℕ) (x : E.Entry) (is : IsEntry l e x) where
-  pub kept_rule : Keeps l t → e < l.count → EntryRule t e (code x.kind) x.i x.j
-  kept_rule h inside = rw (is.kind, is.i, is.j) (h.each e inside)
+  pub kept_rule : Keeps l t → e < l.count → EntryRule t e (code x.kind) x.a x.b
+  kept_rule h inside = rw (is.kind, is.a, is.b) (h.each e inside)
 
-  pub kept_operands : Keeps l t → e < l.count → Operands e x.kind x.i x.j
+  pub kept_operands : Keeps l t → e < l.count → Operands e x.kind x.a x.b
   kept_operands h inside = rule_operands x.kind (kept_rule h inside)
 
-  pub entered_is : (F : Fragment) (size base k told : ℕ) (s : St) {size' : ℕ} → size' ≡ size → told ≡ test_f F k (entry_of (word t) (code x.kind) x.i x.j)
-      → enter_f size' base e (placed (code x.kind) x.i x.j) told s ≡ entry_f l t F size base k e s
+  pub entered_is : (F : Fragment) (size base k told : ℕ) (s : St) {size' : ℕ} → size' ≡ size → told ≡ test_f F k (entry_of (word t) (code x.kind) x.a x.b)
+      → enter_f size' base e (placed (code x.kind) x.a x.b) told s ≡ entry_f l t F size base k e s
   unfolding entry_f
   entered_is F size base k told s z q = cc

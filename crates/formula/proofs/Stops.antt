@@ -29,5 +29,8 @@ module _ (size at e : ℕ) {size' : ℕ} {g h : Got} (same : size' ≡ size) (le
   pub then_is : {j : Got} → j ≡ join_f size' 1 h.code (get_or h.mem (2 * size + at + e) 0) h.mem h.steps → put_vd size at e h.code j ≡ then_d size at e g
   then_is q = ap (put_vd size at e h.code) (q ∙ ap (λ z. join_f z 1 h.code (get_or h.mem (2 * size + at + e) 0) h.mem h.steps) same) ∙ ap (then_d size at e) left
 
+pub room_of : (m : Memory) → Room m
+room_of m = record { room = m.room; count = m.count }
+
 pub room_kept : (m m' : Memory) → Room m → Same m m' → m'.steps ≤ 4096 → Room m'
 room_kept m m' r s k = record { room = omega (arith, r.room, s.1, s.2); count = k }

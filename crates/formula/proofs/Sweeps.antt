@@ -191,6 +191,9 @@ module _ (l : L.List) (t : Bytes) (F : Fragment) (number : ℕ) (sound : Sound n
   abbrev end : List ℕ → St
   end m = sweep_f l t F size (row_count F) (st m 0)
 
+  pub end_by : (m : List ℕ) {cells : ℕ} → cells ≡ size → sweep_f l t F cells (row_count F) (st m 0) ≡ end m
+  end_by m e = ap (λ n. sweep_f l t F n (row_count F) (st m 0)) e
+
   ended : (m : List ℕ) (k : ℕ) → 4 * size + 12288 ≤ length m → m ≡ replicate k 0 → Sim (end m).steps (laid_run R es).st (Laid size n (laid_run R es) (end m).mem)
   unfolding run numbers
   ended m k room zeros = subst (λ k. Sim (down_from f k (st m 0)).steps (laid_run R es).st (Laid size n (laid_run R es) (down_from f k (st m 0)).mem)) rows

@@ -1,6 +1,5 @@
 -- Two words compared by `==`.
-use Prim.Native.Nat.{ℕ, ◌+◌, ◌-◌}
-use native.Mathlib.Nat.{add-sub_cancel_left}
+use Prim.Native.Nat.{ℕ}
 use mathlib.Core.Path.{◌≡◌, refl, ap, ◌∙◌}
 use mathlib.Core.Bool.{Bool, ◌&&◌}
 use mathlib.Core.List.{[], ◌∷◌}
@@ -16,5 +15,5 @@ same_pointwise [] (b ∷ y) = refl
 same_pointwise (a ∷ x) [] = refl
 same_pointwise (a ∷ x) (b ∷ y) = ap (λ q. eqb a b && q) (same_pointwise x y)
 
-pub words_same : (t p : Bytes) (a len b size : ℕ) {r : Bool} → r ≡ pointwise eqb (take (a + len - a) (drop a t)) (take (b + size - b) (drop b p)) → r ≡ same_bytes (word t a len) (word p b size)
-words_same t p a len b size e = e ∙ same_pointwise _ _ ∙ (λ i. same_bytes (take (add-sub_cancel_left a len i) (drop a t)) (take (add-sub_cancel_left b size i) (drop b p)))
+pub words_same : (t p : Bytes) (a len b size : ℕ) {la lb : ℕ} {r : Bool} → r ≡ pointwise eqb (take la (drop a t)) (take lb (drop b p)) → la ≡ len → lb ≡ size → r ≡ same_bytes (word t a len) (word p b size)
+words_same t p a len b size e f g = e ∙ same_pointwise _ _ ∙ (λ i. same_bytes (take (f i) (drop a t)) (take (g i) (drop b p)))

@@ -1,5 +1,6 @@
-// A depot's formula (01) in lent memory. For `size` = rows × entries the memory has V of every row and entry, then C, then D,
-// each `size` numbers, then as many unused, then the steps, three numbers each: operation, left and right reference.
+// A depot's formula (01) in lent memory. V says what each entry is at a row, C whether it is so at some child of the row, D whether
+// at the row or below it. A cell is one entry at one row: for so many cells the memory has all of V, then C, then D, then as
+// many numbers unused, then the steps, three numbers each: operation, left and right reference.
 // A reference is one number, since the lent memory holds numbers: 0 false, 4096 true, 8192 + x a variable, 12288 + i a step.
 #![tactic(auto)]
 
@@ -7,15 +8,15 @@ ghost use Rattle.std.specs.Prelude.{◌≡◌, ℕ, ◌+◌, ◌*◌, ◌/◌, �
 ghost use Rattle.meaning.specs.Bytes.{word, same_bytes};
 ghost use Rattle.meaning.specs.Fragment.{RealRow, num, rows_of};
 ghost use Rattle.meaning.specs.Reply.{laid_run};
-ghost use Rattle.question.specs.inner.Kind.{code};
+ghost use Rattle.question.specs.inner.Kind.{code, IsEntry};
 ghost use Rattle.question.specs.Listed.{entry_of, placed, EntryRule, Keeps, listed};
 ghost use Rattle.formula.specs.inner.Made.{Ready, Made};
 ghost use Rattle.fragment.specs.Lent.{lent};
 ghost use Rattle.formula.specs.inner.Flat.{add_f, join_f, not_f, truth, test_f, value_f, enter_f, visit_f, stand_f, row_f, or_into, lift_f, push_f, deliver_f, sweep_f};
-ghost use Rattle.formula.specs.inner.Memory.{op_number, state, Room, Ruled, Same, Gives, Does, fragment_of, IsEntry, Operands};
 
 use fragment::{Lent, RowKind};
-use question::{Kind, List};
+use question::{Entry, Kind, List};
+use reply::{MOST_STEPS, Op};
 use writing::stand_ins;
 
 const FALSE: u16 = 0;
@@ -26,72 +27,78 @@ const VARIABLE: usize = 8192;
 
 const STEP: usize = 12288;
 
-const MOST_STEPS: usize = 4096;
+// How many numbers the steps take at most.
+const STEP_ROOM: usize = 3 * MOST_STEPS;
 
 // There are over 4,096 steps.
 #[derive(Clone, Copy, Debug, PartialEq, Eq)]
 pub struct TooMany;
 
-// What a step does, by its number in the memory.
-#[derive(Clone, Copy)]
-enum Op {
-    And = 0,
-    Or = 1,
-    Not = 2,
-}
-
-// One entry of the list: its kind and two operands.
-#[derive(Clone, Copy)]
-struct Entry {
-    kind: Kind,
-    i: usize,
-    j: usize,
-}
-
 // What a formula is made of: a list over its question text, and a fragment.
 #[derive(Clone, Copy)]
-struct Source<'a> {
-    list: List,
-    text: &'a [u8],
-    fragment: Lent<'a>,
+pub struct Source<'a> {
+    pub list: List,
+    pub text: &'a [u8],
+    pub fragment: Lent<'a>,
+}
+
+// Where the parts of the work memory begin: V at 0, then C at `cells`, then D and the steps. `need` is how long it has to be.
+#[derive(Clone, Copy)]
+pub struct Layout {
+    pub cells: usize,
+    pub d: usize,
+    pub steps: usize,
+    pub need: usize,
 }
 
 impl<'a> Source<'a> {
-    // Entry e of the list.
+    ghost use Rattle.formula.specs.inner.Memory.{LaidOut, fragment_of};
+
+    // The layout of the work memory for this many cells, rows × entries.
+    pub fn layout(&self) -> Layout
+        requires { length self.now.fragment.rows.now / 6 * self.now.list.count ≤ 16384 }
+        ensures { LaidOut (length self.now.fragment.rows.now / 6 * self.now.list.count) result }
+    {
+        let cells = self.fragment.rows.len() / 6 * self.list.count;
+        Layout {
+            cells,
+            d: 2 * cells,
+            steps: 4 * cells,
+            need: 4 * cells + STEP_ROOM,
+        }
+    }
+
+    // Entry e of the list, which keeps the rules, so that its kind is known.
     fn entry(&self, e: usize) -> Entry
         requires keeps { Keeps self.now.list self.now.text.now }
         requires e_bound { e < self.now.list.count }
         ensures { IsEntry self.now.list e result }
     {
-        let Ok(kind) = Kind::try_from(self.list.kinds[e]) else {
+        let Ok(x) = self.list.entry(e) else {
             unreachable!();
         };
-        Entry {
-            kind,
-            i: usize::from(self.list.left[e]),
-            j: usize::from(self.list.right[e]),
-        }
+        x
     }
 
     // Whether the entry's word is row k's word, whose start is number `field` of the row and whose length is the next.
     fn same_word(&self, x: Entry, k: usize, field: usize) -> bool
-        requires word_in_bounds { x.i + x.j ≤ length self.now.text.now }
+        requires word_in_bounds { x.a + x.b ≤ length self.now.text.now }
         requires field_in_bounds { (k * 6 + 6 ≤ length self.now.fragment.rows.now) × (field ≤ 4) }
         requires row_in_bounds { num (fragment_of self.now) k field + num (fragment_of self.now) k (field + 1) ≤ length self.now.fragment.pool.now }
-        ensures { result ≡ same_bytes (word self.now.text.now x.i x.j) (word self.now.fragment.pool.now (num (fragment_of self.now) k field) (num (fragment_of self.now) k (field + 1))) }
+        ensures { result ≡ same_bytes (word self.now.text.now x.a x.b) (word self.now.fragment.pool.now (num (fragment_of self.now) k field) (num (fragment_of self.now) k (field + 1))) }
     {
         let rows = self.fragment.rows;
         let start = rows[k * 6 + field] as usize;
         let size = rows[k * 6 + (field + 1)] as usize;
-        self.text[x.i..x.i + x.j] == self.fragment.pool[start..start + size]
+        self.text[x.a..x.a + x.b] == self.fragment.pool[start..start + size]
     }
 
     // What an entry of a kind that needs no other entry says at row k, as a reference; true for every other kind.
     fn tested(&self, k: usize, x: Entry) -> u16
         requires k_in_bounds { k * 6 + 6 ≤ length self.now.fragment.rows.now }
         requires real_row { RealRow (fragment_of self.now) k }
-        requires by_index { (e : ℕ) × EntryRule self.now.text.now e (code x.kind) x.i x.j }
-        ensures { result ≡ test_f (fragment_of self.now) k (entry_of (word self.now.text.now) (code x.kind) x.i x.j) }
+        requires by_index { (e : ℕ) × EntryRule self.now.text.now e (code x.kind) x.a x.b }
+        ensures { result ≡ test_f (fragment_of self.now) k (entry_of (word self.now.text.now) (code x.kind) x.a x.b) }
     {
         match x.kind {
             Kind::Label => constant(self.same_word(x, k, 2)),
@@ -108,27 +115,32 @@ fn constant(b: bool) -> u16
     if b { TRUE } else { FALSE }
 }
 
-// The lent memory while a formula is made, for `size` cells, and how many steps it has. Each method's clause `same` says that
-// it still holds the same memory.
+// The lent memory while a formula is made, for so many cells, and how many steps it has. Each method's clause `same` says that
+// it still holds the same memory: a `&mut` may come back with another, and no ghost field can say which one it began with.
+// References are codes here and no `reply::Reference`: each one read or written would be a conversion that may fail. A row is told by
+// its number, as its parent and its cells are, so a method asks that it is one of the source's.
 #[derive(Drop)]
 struct Memory<'a> {
     work: &'a mut [u16],
-    size: usize,
+    cells: usize,
     steps: usize,
+    ghost room: { 4 * cells + 12288 ≤ length work.now },
+    ghost count: { steps ≤ 4096 },
 }
 
 impl<'a> Memory<'a> {
+    ghost use Rattle.formula.specs.inner.Memory.{op_number, state, Ruled, Same, Gives, Does, fragment_of, Operands};
+
     // One step more, and the reference to it.
     fn added(&mut self, op: Op, a: u16, b: u16) -> Result<u16, TooMany>
-        requires { Room self.old }
         ensures same { Same self.old self.new }
-        ensures gives { Gives (add_f self.old.size (op_number op) a b self.old.work.now self.old.steps) self.new result }
+        ensures gives { Gives (add_f self.old.cells (op_number op) a b self.old.work.now self.old.steps) self.new result }
     {
         if MOST_STEPS <= self.steps {
             return Err(TooMany);
         }
         let code = (STEP + self.steps) as u16;
-        let at = 4 * self.size + 3 * self.steps;
+        let at = 4 * self.cells + 3 * self.steps;
         self.work[at] = op as u16;
         self.work[at + 1] = a;
         self.work[at + 2] = b;
@@ -136,13 +148,24 @@ impl<'a> Memory<'a> {
         Ok(code)
     }
 
-    // a and b joined by and, which false decides, or by or, which true decides.
-    fn joined(&mut self, op: Op, decides: u16, a: u16, b: u16) -> Result<u16, TooMany>
-        requires room { Room self.old }
-        requires joins { (op_number op ≤ 1) × (decides ≡ op_number op * 4096) }
-        ensures same { Same self.old self.new }
-        ensures gives { Gives (join_f self.old.size (op_number op) a b self.old.work.now self.old.steps) self.new result }
+    // The constant that decides a joining: false decides and, true decides or.
+    fn deciding(op: Op) -> u16
+        requires { op_number op ≤ 1 }
+        ensures { result ≡ op_number op * 4096 }
     {
+        match op {
+            Op::Or => TRUE,
+            Op::And | Op::Not => FALSE,
+        }
+    }
+
+    // a and b joined by and or by or.
+    fn joined(&mut self, op: Op, a: u16, b: u16) -> Result<u16, TooMany>
+        requires { op_number op ≤ 1 }
+        ensures same { Same self.old self.new }
+        ensures gives { Gives (join_f self.old.cells (op_number op) a b self.old.work.now self.old.steps) self.new result }
+    {
+        let decides = Self::deciding(op);
         let leaves = TRUE - decides;
         if a == decides || b == leaves {
             return Ok(a);
@@ -155,27 +178,24 @@ impl<'a> Memory<'a> {
 
     // a and b.
     fn both(&mut self, a: u16, b: u16) -> Result<u16, TooMany>
-        requires { Room self.old }
         ensures same { Same self.old self.new }
-        ensures gives { Gives (join_f self.old.size 0 a b self.old.work.now self.old.steps) self.new result }
+        ensures gives { Gives (join_f self.old.cells 0 a b self.old.work.now self.old.steps) self.new result }
     {
-        self.joined(Op::And, FALSE, a, b)
+        self.joined(Op::And, a, b)
     }
 
     // a or b.
     fn either(&mut self, a: u16, b: u16) -> Result<u16, TooMany>
-        requires { Room self.old }
         ensures same { Same self.old self.new }
-        ensures gives { Gives (join_f self.old.size 1 a b self.old.work.now self.old.steps) self.new result }
+        ensures gives { Gives (join_f self.old.cells 1 a b self.old.work.now self.old.steps) self.new result }
     {
-        self.joined(Op::Or, TRUE, a, b)
+        self.joined(Op::Or, a, b)
     }
 
     // Not a.
     fn negated(&mut self, a: u16) -> Result<u16, TooMany>
-        requires { Room self.old }
         ensures same { Same self.old self.new }
-        ensures gives { Gives (not_f self.old.size a self.old.work.now self.old.steps) self.new result }
+        ensures gives { Gives (not_f self.old.cells a self.old.work.now self.old.steps) self.new result }
     {
         match a {
             FALSE => Ok(TRUE),
@@ -186,41 +206,39 @@ impl<'a> Memory<'a> {
 
     // V of an entry by its kind, where the row's references begin at `at`; `told` is what a test says.
     fn value(&mut self, at: usize, x: Entry, told: u16) -> Result<u16, TooMany>
-        requires room { Room self.old }
-        requires by_index { (e : ℕ) × (at + e ≤ self.old.size) × Operands e x.kind x.i x.j }
+        requires by_index { (e : ℕ) × (at + e ≤ self.old.cells) × Operands e x.kind x.a x.b }
         ensures same { Same self.old self.new }
-        ensures gives { Gives (value_f self.old.size at (placed (code x.kind) x.i x.j) told self.old.work.now self.old.steps) self.new result }
+        ensures gives { Gives (value_f self.old.cells at (placed (code x.kind) x.a x.b) told self.old.work.now self.old.steps) self.new result }
     {
-        let c = self.size + at;
-        let d = 2 * self.size + at;
+        let c = self.cells + at;
+        let d = 2 * self.cells + at;
         match x.kind {
             Kind::Itself | Kind::Label | Kind::Text => Ok(told),
-            Kind::Child => Ok(self.work[c + x.i]),
-            Kind::Below => Ok(self.work[d + x.i]),
+            Kind::Child => Ok(self.work[c + x.a]),
+            Kind::Below => Ok(self.work[d + x.a]),
             Kind::Not => {
-                let a = self.work[at + x.i];
+                let a = self.work[at + x.a];
                 self.negated(a)
             }
             Kind::Or => {
-                let (a, b) = (self.work[at + x.i], self.work[at + x.j]);
+                let (a, b) = (self.work[at + x.a], self.work[at + x.b]);
                 self.either(a, b)
             }
             Kind::At | Kind::And => {
-                let (a, b) = (self.work[at + x.i], self.work[at + x.j]);
+                let (a, b) = (self.work[at + x.a], self.work[at + x.b]);
                 self.both(a, b)
             }
         }
     }
 
-    // Entry e of a real row: V by its kind, then D becomes V or D.
+    // Entry e of a real row: V by its kind, then D becomes V or D. Its row's place and what a test told are worked out once a row.
     fn entered(&mut self, at: usize, e: usize, x: Entry, told: u16) -> Result<(), TooMany>
-        requires room { Room self.old }
-        requires e_bound { at + e < self.old.size }
-        requires reads { Operands e x.kind x.i x.j }
+        requires e_bound { at + e < self.old.cells }
+        requires reads { Operands e x.kind x.a x.b }
         ensures same { Same self.old self.new }
-        ensures does { Does (enter_f self.old.size at e (placed (code x.kind) x.i x.j) told (state self.old)) self.new result }
+        ensures does { Does (enter_f self.old.cells at e (placed (code x.kind) x.a x.b) told (state self.old)) self.new result }
     {
-        let lower = 2 * self.size + at + e;
+        let lower = 2 * self.cells + at + e;
         let v = self.value(at, x, told)?;
         let below = self.work[lower];
         let d = self.either(v, below)?;
@@ -231,13 +249,12 @@ impl<'a> Memory<'a> {
 
     // Row k, a real one: each entry in order.
     fn visited(&mut self, source: &Source, at: usize, k: usize) -> Result<(), TooMany>
-        requires room { Room self.old }
-        requires count_bound { at + source.now.list.count ≤ self.old.size }
+        requires count_bound { at + source.now.list.count ≤ self.old.cells }
         requires k_in_bounds { k * 6 + 6 ≤ length source.now.fragment.rows.now }
         requires real_row { RealRow (fragment_of source.now) k }
         requires keeps { Keeps source.now.list source.now.text.now }
         ensures same { Same self.old self.new }
-        ensures does { Does (visit_f source.now.list source.now.text.now (fragment_of source.now) self.old.size at k (state self.old)) self.new result }
+        ensures does { Does (visit_f source.now.list source.now.text.now (fragment_of source.now) self.old.cells at k (state self.old)) self.new result }
     {
         for e in 0..source.list.count {
             let x = source.entry(e);
@@ -248,29 +265,27 @@ impl<'a> Memory<'a> {
 
     // A stand-in's V and D are variables, the first of them `first`.
     fn stood(&mut self, at: usize, count: usize, first: usize)
-        requires room { Room self.old }
-        requires count_bound { at + count ≤ self.old.size }
+        requires count_bound { at + count ≤ self.old.cells }
         requires count_bound_2 { count ≤ 32 }
         requires first_bound { first ≤ 32768 }
         ensures same { Same self.old self.new }
-        ensures memory { self.new.work.now ≡ stand_f self.old.size at count first self.old.work.now }
+        ensures memory { self.new.work.now ≡ stand_f self.old.cells at count first self.old.work.now }
         ensures steps { self.new.steps ≡ self.old.steps }
     {
         for e in 0..count {
             let v = first + e;
             let d = first + count + e;
             self.work[at + e] = (VARIABLE + v) as u16;
-            self.work[2 * self.size + at + e] = (VARIABLE + d) as u16;
+            self.work[2 * self.cells + at + e] = (VARIABLE + d) as u16;
         }
     }
 
     // The reference at i becomes it or the reference at j.
     fn or_into(&mut self, i: usize, j: usize) -> Result<(), TooMany>
-        requires room { Room self.old }
-        requires i_bound { i < 4 * self.old.size }
-        requires j_bound { j < 4 * self.old.size }
+        requires i_bound { i < 4 * self.old.cells }
+        requires j_bound { j < 4 * self.old.cells }
         ensures same { Same self.old self.new }
-        ensures does { Does (or_into self.old.size i j (state self.old)) self.new result }
+        ensures does { Does (or_into self.old.cells i j (state self.old)) self.new result }
     {
         let (a, b) = (self.work[i], self.work[j]);
         self.work[i] = self.either(a, b)?;
@@ -279,27 +294,25 @@ impl<'a> Memory<'a> {
 
     // Entry e of the row at `at` to its parent at `up`: C becomes C or V, then D becomes D or this D.
     fn lifted(&mut self, at: usize, up: usize, e: usize) -> Result<(), TooMany>
-        requires room { Room self.old }
-        requires e_bound { at + e < self.old.size }
-        requires e_bound_2 { up + e < self.old.size }
+        requires e_bound { at + e < self.old.cells }
+        requires e_bound_2 { up + e < self.old.cells }
         ensures same { Same self.old self.new }
-        ensures does { Does (lift_f self.old.size at up e (state self.old)) self.new result }
+        ensures does { Does (lift_f self.old.cells at up e (state self.old)) self.new result }
     {
         let here = at + e;
-        let lower = 2 * self.size + at + e;
-        let c = self.size + up + e;
-        let d = 2 * self.size + up + e;
+        let lower = 2 * self.cells + at + e;
+        let c = self.cells + up + e;
+        let d = 2 * self.cells + up + e;
         self.or_into(c, here)?;
         self.or_into(d, lower)
     }
 
     // Each entry of the row at `at` to its parent at `up`.
     fn pushed(&mut self, at: usize, up: usize, count: usize) -> Result<(), TooMany>
-        requires room { Room self.old }
-        requires count_bound { at + count ≤ self.old.size }
-        requires count_bound_2 { up + count ≤ self.old.size }
+        requires count_bound { at + count ≤ self.old.cells }
+        requires count_bound_2 { up + count ≤ self.old.cells }
         ensures same { Same self.old self.new }
-        ensures does { Does (push_f self.old.size at up count (state self.old)) self.new result }
+        ensures does { Does (push_f self.old.cells at up count (state self.old)) self.new result }
     {
         for e in 0..count {
             self.lifted(at, up, e)?;
@@ -309,12 +322,11 @@ impl<'a> Memory<'a> {
 
     // V and D of row k, a stand-in with the position `place` or a real row.
     fn row(&mut self, source: &Source, k: usize, place: usize) -> Result<(), TooMany>
-        requires room { Room self.old }
         requires ruled { Ruled source.now self.old }
         requires k_in_bounds { k < length source.now.fragment.rows.now / 6 }
         requires place_bound { place ≤ 512 }
         ensures same { Same self.old self.new }
-        ensures does { Does (row_f source.now.list source.now.text.now (fragment_of source.now) self.old.size k place (state self.old)) self.new result }
+        ensures does { Does (row_f source.now.list source.now.text.now (fragment_of source.now) self.old.cells k place (state self.old)) self.new result }
     {
         let count = source.list.count;
         if source.fragment.is(k, RowKind::StandIn) {
@@ -327,12 +339,11 @@ impl<'a> Memory<'a> {
 
     // Row k, and then its part in its parent.
     fn delivered(&mut self, source: &Source, k: usize, place: usize) -> Result<(), TooMany>
-        requires room { Room self.old }
         requires ruled { Ruled source.now self.old }
         requires k_in_bounds { k < length source.now.fragment.rows.now / 6 }
         requires place_bound { place ≤ 512 }
         ensures same { Same self.old self.new }
-        ensures does { Does (deliver_f source.now.list source.now.text.now (fragment_of source.now) self.old.size k place (state self.old)) self.new result }
+        ensures does { Does (deliver_f source.now.list source.now.text.now (fragment_of source.now) self.old.cells k place (state self.old)) self.new result }
     {
         self.row(source, k, place)?;
         if k == 0 {
@@ -345,10 +356,9 @@ impl<'a> Memory<'a> {
 
     // All rows, from the last to the first.
     fn swept(&mut self, source: &Source) -> Result<(), TooMany>
-        requires room { Room self.old }
         requires ruled { Ruled source.now self.old }
         ensures same { Same self.old self.new }
-        ensures does { Does (sweep_f source.now.list source.now.text.now (fragment_of source.now) self.old.size (length source.now.fragment.rows.now / 6) (state self.old)) self.new result }
+        ensures does { Does (sweep_f source.now.list source.now.text.now (fragment_of source.now) self.old.cells (length source.now.fragment.rows.now / 6) (state self.old)) self.new result }
     {
         let mut place = stand_ins(source.fragment.rows);
         for k in (0..source.fragment.rows.len() / 6).rev() {
@@ -359,31 +369,18 @@ impl<'a> Memory<'a> {
     }
 }
 
-// The formula of a fragment, whatever the memory held: how many steps it has. The parameters stand apart, as `depot_reply` is
-// lent them.
-pub fn formula(
-    list: List,
-    text: &[u8],
-    rows: &[u32],
-    pool: &[u8],
-    work: &mut [u16],
-) -> Result<usize, TooMany>
-    requires { Ready list text.now (lent rows.now pool.now) work.old }
-    ensures { Made (length rows.now / 6 * list.count) list.count (laid_run (rows_of (lent rows.now pool.now)) (listed list text.now)) work.new result }
+// The formula of a fragment, whatever the memory held: how many steps it has.
+pub fn formula(source: &Source, work: &mut [u16]) -> Result<usize, TooMany>
+    requires { Ready source.now.list source.now.text.now (lent source.now.fragment.rows.now source.now.fragment.pool.now) work.old }
+    ensures { Made (length source.now.fragment.rows.now / 6 * source.now.list.count) source.now.list.count (laid_run (rows_of (lent source.now.fragment.rows.now source.now.fragment.pool.now)) (listed source.now.list source.now.text.now)) work.new result }
 {
     work.fill(0);
-    let fragment = Lent { rows, pool };
-    let source = Source {
-        list,
-        text,
-        fragment,
-    };
-    let size = rows.len() / 6 * list.count;
+    let cells = source.layout().cells;
     let mut memory = Memory {
         work,
-        size,
+        cells,
         steps: 0,
     };
-    memory.swept(&source)?;
+    memory.swept(source)?;
     Ok(memory.steps)
 }

@@ -3,6 +3,7 @@ use Prim.Native.Nat.{ℕ, zero, suc, ◌+◌, ◌*◌, ◌-◌, ◌≤◌, ◌<�
 use native.Mathlib.Omega.{arith}
 use native.Mathlib.Nat.{add-zero, mul-le-mul_right}
 use Rattle.std.proofs.Math.Seq.{drop-cons}
+use Rattle.std.proofs.lemmas.Bool.{le-ltb}
 use mathlib.Core.Path.{◌≡◌, refl, sym, ap, subst}
 use mathlib.Core.Bool.{Bool, true, false}
 use mathlib.Core.List.{List, [], ◌∷◌}
@@ -13,7 +14,7 @@ use lib.Dec.{eqb, ltb}
 use Rattle.meaning.specs.Says.{Says, nay}
 use Rattle.meaning.specs.Fragment.{Fragment, num, row_count, RealRow, StandIn, RowRule, Sound}
 use Rattle.meaning.proofs.Says.{says_iff, says_and, says_self}
-use Rattle.meaning.proofs.Numbers.{says_eqb, ltb_false}
+use Rattle.meaning.proofs.Numbers.{says_eqb}
 use Rattle.fragment.specs.inner.Parts.{WordRule, ParentRule}
 
 -- row k of r rows of w numbers lies within them
@@ -32,7 +33,7 @@ module _ (F : Fragment) where
   -- n is k, as the code writes it
   pub late_parent : (k n : ℕ) → (k ≡ 0 → ⊥) → n ≤ get_or F.rows (k * 6) 0 → k ≤ get_or F.rows (k * 6) 0 → Says (ParentRule F k) (ltb (get_or F.rows (k * 6) 0) n)
   late_parent zero n z g h = absurd (z refl)
-  late_parent (suc k) n z g h = rw (ltb_false _ _ g) (nay (λ w. omega (arith, parent_is (suc k), w.0)))
+  late_parent (suc k) n z g h = rw (le-ltb _ _ g) (nay (λ w. omega (arith, parent_is (suc k), w.0)))
 
   pub real_parent : (k : ℕ) → (k ≡ 0 → ⊥) → get_or F.rows (k * 6) 0 < k → {b : Bool} → Says (get_or F.rows (get_or F.rows (k * 6) 0 * 6 + 1) 0 ≡ 0) b → Says (ParentRule F k) b
   real_parent zero n h s = absurd (n refl)
@@ -65,9 +66,9 @@ module _ (F : Fragment) (k : ℕ) where
 
   module _ (number : ℕ) where
     pub says_stand : num F k 1 ≡ 1 → {b : Bool} → Says ((((number < num F k 2) × (num F k 2 ≤ 31)) × ((num F k 3 ≡ 0) × (num F k 4 ≡ 0) × (num F k 5 ≡ 0)))
-        × ((j : ℕ) × (0 ≤ j) × (j < k) × ((num F j 1 ≡ 1) × (num F j 2 ≡ num F k 2)) → ⊥)) b → Says (StandIn number F k) b
-    says_stand z s = says_iff (λ w. record { kind = z; above = w.0.0.0; most = w.0.0.1; zeros = w.0.1; new = λ j h e g. w.1 (j, omega arith, h, (e, g)) })
-        (λ r. (((r.above, r.most), r.zeros), λ w. r.new w.0 w.2 w.3.0 w.3.1)) s
+        × ((j : ℕ) × (j < k) × ((num F j 1 ≡ 1) × (num F j 2 ≡ num F k 2)) → ⊥)) b → Says (StandIn number F k) b
+    says_stand z s = says_iff (λ w. record { kind = z; above = w.0.0.0; most = w.0.0.1; zeros = w.0.1; new = λ j h e g. w.1 (j, h, (e, g)) })
+        (λ r. (((r.above, r.most), r.zeros), λ w. r.new w.0 w.1 w.2.0 w.2.1)) s
 
 -- a row's rule by its kind
 module _ (number : ℕ) (F : Fragment) where
@@ -86,9 +87,9 @@ module _ (number : ℕ) (F : Fragment) where
   no_row zero h = nay (λ r. omega (arith, r.1.kind))
   no_row (suc k) h = nay (λ r. ⊎_elim (λ x. omega (arith, x.kind)) (λ x. omega (arith, x.kind)) r.2)
 
-  pub says_sound : {b : Bool} → Says ((((number ≤ 31) × (length F.rows ≡ row_count F * 6)) × ((1 ≤ row_count F) × (row_count F ≤ 512))) × ((k : ℕ) → 0 ≤ k → k < row_count F → RowRule number F k)) b → Says (Sound number F) b
-  says_sound s = says_iff (λ w. record { number_most = w.0.0.0; sixes = w.0.0.1; some_row = w.0.1.0; rows_most = w.0.1.1; each = λ k h. w.1 k (omega arith) h })
-      (λ r. (((r.number_most, r.sixes), (r.some_row, r.rows_most)), λ k o h. r.each k h)) s
+  pub says_sound : {b : Bool} → Says ((((number ≤ 31) × (length F.rows ≡ row_count F * 6)) × ((1 ≤ row_count F) × (row_count F ≤ 512))) × ((k : ℕ) → k < row_count F → RowRule number F k)) b → Says (Sound number F) b
+  says_sound s = says_iff (λ w. record { number_most = w.0.0.0; sixes = w.0.0.1; some_row = w.0.1.0; rows_most = w.0.1.1; each = w.1 })
+      (λ r. (((r.number_most, r.sixes), (r.some_row, r.rows_most)), r.each)) s
 
 -- WHAT A SOUND FRAGMENT GIVES: a row that is no stand-in is real, and a parent comes first
 module _ (number : ℕ) (F : Fragment) (s : Sound number F) where

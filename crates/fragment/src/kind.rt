@@ -7,7 +7,7 @@ pub enum RowKind {
     StandIn = 1,
 }
 
-// A number that names no kind of row.
+// A number that names no kind of row. Question has the like for a byte: the two share no crate with code, and one for two lines would be no plainer.
 #[derive(Clone, Copy, Debug, PartialEq, Eq)]
 pub struct UnknownRowKind(pub u32);
 

@@ -12,7 +12,8 @@ pub use kind::{RowKind, UnknownRowKind};
 
 mod kind;
 
-// A fragment as it is lent: its rows, six numbers each, beside a byte pool.
+// A fragment as it is lent: its rows, six numbers each, beside a byte pool. The methods take a row's number, and each asks that
+// the row lies inside: a struct for one row would be no plainer, since two of them look at other rows too, by number.
 #[derive(Clone, Copy)]
 pub struct Lent<'a> {
     pub rows: &'a [u32],
@@ -97,16 +98,15 @@ impl Lent<'_> {
             Err(_) => false,
         }
     }
-}
 
-// Whether the fragment of this number keeps the rules.
-pub fn fragment_ok(rows: &[u32], pool: &[u8], number: u32) -> bool
-    ensures { Says (Sound number (lent rows.now pool.now)) result }
-{
-    let lent = Lent { rows, pool };
-    let count = rows.len() / 6;
-    number <= 31
-        && rows.len() == count * 6
-        && (1..=512).contains(&count)
-        && (0..count).all(|k| lent.row_ok(number, k))
+    // Whether the fragment keeps the rules, under this number.
+    pub fn ok(self, number: u32) -> bool
+        ensures { Says (Sound number (lent self.entry.rows.now self.entry.pool.now)) result }
+    {
+        let count = self.rows.len() / 6;
+        number <= 31
+            && self.rows.len() == count * 6
+            && (1..=512).contains(&count)
+            && (0..count).all(|k| self.row_ok(number, k))
+    }
 }

@@ -3,7 +3,7 @@
 
 ghost use Rattle.std.specs.Prelude.{◌≤◌, IfOk};
 
-use listing::question_listing;
+use listing::{MOST_LISTING, question_listing};
 use question::List;
 use reader::question_read;
 use std::io::{self, Read, Write};
@@ -42,9 +42,9 @@ fn answer(rt: &impl Print, text: &[u8]) -> io::Result<()> {
     }
 }
 
-// No listing has over 2,369 bytes, and the reader's lists keep their rules: there is always one to print.
+// The reader's lists keep their rules, and no listing is longer than the page: there is always one to print.
 fn print_list(rt: &impl Print, list: List, text: &[u8]) -> io::Result<()> {
-    let mut page = [0u8; 2369];
+    let mut page = [0u8; MOST_LISTING];
     let size = question_listing(list, text, &mut page);
     match page.get(..size) {
         Some(listing) => io::writer(rt).write_all(listing),

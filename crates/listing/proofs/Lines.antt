@@ -13,7 +13,8 @@ use Rattle.meaning.specs.Reply.{tabulated}
 use Rattle.question.specs.declared.List as L
 use Rattle.question.specs.declared.kind.Kind.{Kind}
 use Rattle.question.specs.declared.kind.Kind.TheVariants.{Itself, Label, Text, Child, At, Below, Or, And, Not}
-use Rattle.question.specs.inner.Kind.{code}
+use Rattle.question.specs.declared.entry.Entry as E
+use Rattle.question.specs.inner.Kind.{code, IsEntry}
 use Rattle.question.specs.Listed.{entry_of, EntryRule, Keeps, listed}
 use Rattle.question.proofs.Listed.{listed_length}
 use Rattle.listing.specs.Listing.{decimal, shown, line, lines, listing, listing_of, Lists}
@@ -80,14 +81,14 @@ pub line_length : (i : ℕ) (e : Entry Bytes) → length (line i e) ≡ length (
 unfolding line
 line_length i e = omega (arith, length-append (decimal i) (ascii " " ++ (shown e ++ ascii "\n")), length-append (shown e) (ascii "\n"))
 
-module _ (l : L.List) (t : Bytes) (i : ℕ) (kind : Kind) (e : code kind ≡ get_or l.kinds i 0) where
-  shown_is : word_of kind ++ operands t kind (get_or l.left i 0) (get_or l.right i 0) ≡ shown (entry_in l t i)
-  shown_is = parts t kind _ _ ∙ ap (λ k. shown (entry_of (word t) k (get_or l.left i 0) (get_or l.right i 0))) e
+module _ (l : L.List) (t : Bytes) (i : ℕ) {x : E.Entry} (is : IsEntry l i x) where
+  shown_is : word_of x.kind ++ operands t x.kind x.a x.b ≡ shown (entry_in l t i)
+  shown_is = rw (← is.kind, ← is.a, ← is.b) (parts t x.kind x.a x.b)
 
-  pub line_size : length (line i (entry_in l t i)) ≡ length (decimal i) + length (word_of kind) + length (operands t kind (get_or l.left i 0) (get_or l.right i 0)) + 2
-  line_size = omega (arith, line_length i (entry_in l t i), ap length shown_is, length-append (word_of kind) (operands t kind (get_or l.left i 0) (get_or l.right i 0)))
+  pub line_size : length (line i (entry_in l t i)) ≡ length (decimal i) + length (word_of x.kind) + length (operands t x.kind x.a x.b) + 2
+  line_size = omega (arith, line_length i (entry_in l t i), ap length shown_is, length-append (word_of x.kind) (operands t x.kind x.a x.b))
 
-  pub line_put : (before : Bytes) → ((((before ++ decimal i) ++ ascii " ") ++ word_of kind) ++ operands t kind (get_or l.left i 0) (get_or l.right i 0)) ++ ascii "\n" ≡ before ++ line i (entry_in l t i)
+  pub line_put : (before : Bytes) → ((((before ++ decimal i) ++ ascii " ") ++ word_of x.kind) ++ operands t x.kind x.a x.b) ++ ascii "\n" ≡ before ++ line i (entry_in l t i)
   unfolding line
   line_put before = simp append_assoc (rw (← shown_is) (simp append_assoc))
 

@@ -4,7 +4,7 @@
 ghost use Rattle.std.specs.Prelude.{◌≡◌, ℕ, ◌+◌, ◌<◌, ◌≤◌, [], ◌++◌, length};
 ghost use Rattle.question.specs.inner.Kind.{code};
 ghost use Rattle.question.specs.Listed.{EntryRule, Keeps};
-ghost use Rattle.listing.specs.declared.page.TheConstants.{SIZE};
+ghost use Rattle.listing.specs.declared.TheConstants.{MOST_LISTING};
 ghost use Rattle.listing.specs.Listing.{line, listing_of, Lists};
 ghost use Rattle.listing.specs.inner.Parts.{word_of, operands, entry_in};
 
@@ -12,7 +12,10 @@ mod page;
 
 use page::Page;
 use question::rules::list_ok;
-use question::{Kind, List};
+use question::{Entry, Kind, List};
+
+// No listing is longer.
+pub const MOST_LISTING: usize = 2369;
 
 // A kind's word, with the blank after it where something follows.
 fn word_of(kind: Kind) -> &'static [u8]
@@ -32,17 +35,15 @@ fn word_of(kind: Kind) -> &'static [u8]
 }
 
 // Puts what follows a kind's word: a word of the text, an entry's number or two.
-fn put_operands(page: &mut Page, text: &[u8], kind: Kind, a: u8, b: u8)
-    requires by_index { (i : ℕ) × (i < 32) × EntryRule text.now i (code kind) a b }
-    requires room { length page.old + length (operands text.now kind a b) ≤ SIZE }
-    ensures { page.new ≡ page.old ++ operands text.now kind a b }
+fn put_operands(page: &mut Page, text: &[u8], entry: Entry)
+    requires by_index { (i : ℕ) × (i < 32) × EntryRule text.now i (code entry.kind) entry.a entry.b }
+    requires room { length page.old + length (operands text.now entry.kind entry.a entry.b) ≤ MOST_LISTING }
+    ensures { page.new ≡ page.old ++ operands text.now entry.kind entry.a entry.b }
 {
+    let Entry { kind, a, b } = entry;
     match kind {
         Kind::Itself => {}
-        Kind::Label | Kind::Text => {
-            let start = usize::from(a);
-            page.put(&text[start..start + usize::from(b)]);
-        }
+        Kind::Label | Kind::Text => page.put(&text[a..a + b]),
         Kind::Child | Kind::Below | Kind::Not => page.put_number(a),
         Kind::At | Kind::Or | Kind::And => page.put_two(a, b),
     }
@@ -52,14 +53,14 @@ fn put_operands(page: &mut Page, text: &[u8], kind: Kind, a: u8, b: u8)
 fn put_line(page: &mut Page, list: &List, text: &[u8], i: usize)
     requires keeps { Keeps list.now text.now }
     requires bound { i < list.now.count }
-    requires room { length page.old + length (line i (entry_in list.now text.now i)) ≤ SIZE }
+    requires room { length page.old + length (line i (entry_in list.now text.now i)) ≤ MOST_LISTING }
     ensures { page.new ≡ page.old ++ line i (entry_in list.now text.now i) }
 {
-    let kind = Kind::try_from(list.kinds[i]).unwrap();
-    page.put_number(i as u8);
+    let entry = list.entry(i).unwrap();
+    page.put_number(i);
     page.put(b" ");
-    page.put(word_of(kind));
-    put_operands(page, text, kind, list.left[i], list.right[i]);
+    page.put(word_of(entry.kind));
+    put_operands(page, text, entry);
     page.put(b"\n");
 }
 
@@ -69,7 +70,7 @@ fn put_listing(page: &mut Page, list: &List, text: &[u8])
     ensures { page.new ≡ listing_of list.now text.now }
 {
     page.put(b"entries ");
-    page.put_number(list.count as u8);
+    page.put_number(list.count);
     page.put(b"\n");
     for i in 0..list.count {
         put_line(page, list, text, i);
@@ -80,6 +81,7 @@ fn put_listing(page: &mut Page, list: &List, text: &[u8])
 pub fn question_listing(list: List, text: &[u8], out: &mut [u8]) -> usize
     ensures { Lists list text.now out.old result out.new }
 {
+    // `Lists` says 0 for no listing, as C reads it: a listing has some byte
     if !list_ok(list, text) {
         return 0;
     }

@@ -1,17 +1,16 @@
-// The page that a listing is written on: fixed memory, and how much of it is filled.
+// The page that a listing is written on: fixed memory, and how much of it is filled. By its contract `write!` may fail on any
+// page, and a listing may not (`Lists`): so numbers are put digit by digit.
 ghost use Rattle.std.specs.Prelude.{◌≡◌, ℕ, ◌+◌, ◌<◌, ◌≤◌, List, [], ◌++◌, length, take};
 ghost use Rattle.meaning.specs.Bytes.{ascii};
 ghost use Rattle.listing.specs.Listing.{decimal};
-ghost use Rattle.listing.specs.declared.page.TheConstants.{SIZE};
+ghost use Rattle.listing.specs.declared.TheConstants.{MOST_LISTING};
 
+use crate::MOST_LISTING;
 use std::marker::Model;
-
-// No listing is longer.
-pub(crate) const SIZE: usize = 2369;
 
 #[derive(Drop)]
 pub(crate) struct Page {
-    bytes: [u8; SIZE],
+    bytes: [u8; MOST_LISTING],
     filled: usize,
 }
 
@@ -21,7 +20,7 @@ impl Model for Page {
 
     ghost view = { λ p. take p.filled p.bytes };
 
-    ghost invariant = { λ p. p.filled ≤ SIZE };
+    ghost invariant = { λ p. p.filled ≤ MOST_LISTING };
 }
 
 impl Page {
@@ -29,7 +28,7 @@ impl Page {
         ensures { result ≡ [] }
     {
         Page {
-            bytes: [0; SIZE],
+            bytes: [0; MOST_LISTING],
             filled: 0,
         }
     }
@@ -41,7 +40,7 @@ impl Page {
     }
 
     pub(crate) fn put(&mut self, w: &[u8])
-        requires { length self.old + length w.now ≤ SIZE }
+        requires { length self.old + length w.now ≤ MOST_LISTING }
         ensures { self.new ≡ self.old ++ w.now }
     {
         let end = self.filled + w.len();
@@ -49,21 +48,21 @@ impl Page {
         self.filled = end;
     }
 
-    pub(crate) fn put_number(&mut self, n: u8)
+    pub(crate) fn put_number(&mut self, n: usize)
         requires small { n < 100 }
-        requires room { length self.old + length (decimal n) ≤ SIZE }
+        requires room { length self.old + length (decimal n) ≤ MOST_LISTING }
         ensures { self.new ≡ self.old ++ decimal n }
     {
         if n >= 10 {
-            self.put(&[b'0' + n / 10]);
+            self.put(&[b'0' + (n / 10) as u8]);
         }
-        self.put(&[b'0' + n % 10]);
+        self.put(&[b'0' + (n % 10) as u8]);
     }
 
     // Two numbers with a blank between.
-    pub(crate) fn put_two(&mut self, a: u8, b: u8)
+    pub(crate) fn put_two(&mut self, a: usize, b: usize)
         requires small { (a < 100) × (b < 100) }
-        requires room { length self.old + length (decimal a ++ (ascii " " ++ decimal b)) ≤ SIZE }
+        requires room { length self.old + length (decimal a ++ (ascii " " ++ decimal b)) ≤ MOST_LISTING }
         ensures { self.new ≡ self.old ++ (decimal a ++ (ascii " " ++ decimal b)) }
     {
         self.put_number(a);

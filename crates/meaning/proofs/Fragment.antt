@@ -7,7 +7,7 @@ use mathlib.Core.Logic.{⊎_elim}
 use lib.Dec.{eqb}
 use Rattle.meaning.specs.Fragment.{Fragment, num, row_count, StandIn, RowRule, Sound, Rows, rows_of, ChildRow, alone}
 use Rattle.meaning.proofs.Tree.{Finite}
-use Rattle.meaning.proofs.Numbers.{eqb_true, eqb_is}
+use Rattle.std.proofs.lemmas.Bool.{eq-eqb, eqb-true}
 use Rattle.meaning.proofs.Placed.{Placed}
 use Rattle.meaning.proofs.Gather.{gather, gather_some, gather_has, gathered, Gathered}
 
@@ -47,13 +47,13 @@ module _ (R : Rows) (up : Upright R) where
   alone_finite = record {
     kids = λ u. gather (kid_test u) (λ c. c) R.last 1;
     rank = λ k. suc R.last - k;
-    listed = λ u v h. gather_has (kid_test u) (λ c. c) v R.last 1 h.lower (omega (arith, h.inside)) (ap (λ p. eqb p u) h.under ∙ eqb_true u);
+    listed = λ u v h. gather_has (kid_test u) (λ c. c) v R.last 1 h.lower (omega (arith, h.inside)) (ap (λ p. eqb p u) h.under ∙ eq-eqb u u refl);
     child = λ u v i. kid u v (gathered (kid_test u) (λ c. c) v R.last 1 i);
     falls = λ u v i. falls u v (kid u v (gathered (kid_test u) (λ c. c) v R.last 1 i));
   }
     where
       kid : (u v : ℕ) → Gathered (kid_test u) (λ c. c) R.last 1 v → ChildRow R u v
-      kid u v g = record { lower = omega (arith, g.low, g.is); inside = omega (arith, g.high, g.is); under = ap R.parent (sym g.is) ∙ eqb_is (R.parent g.row) u g.passes }
+      kid u v g = record { lower = omega (arith, g.low, g.is); inside = omega (arith, g.high, g.is); under = ap R.parent (sym g.is) ∙ eqb-true (R.parent g.row) u g.passes }
 
       falls : (u v : ℕ) → ChildRow R u v → suc R.last - v < suc R.last - u
       falls u v c = omega (arith, c.inside, c.under, up.parents v c.lower c.inside)

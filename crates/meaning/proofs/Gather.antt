@@ -7,13 +7,8 @@ use mathlib.Core.Bool.{Bool, true, false, ◌&&◌, ◌||◌, cond, true≢false
 use mathlib.Core.List.Memᴰ
 use mathlib.Core.List.{List, [], ◌∷◌, Memᴰ}
 use Rattle.meaning.proofs.Says.{some}
-use Rattle.meaning.proofs.Placed.{ups, or_false}
-
-or_swap : (a b : Bool) → a || b ≡ b || a
-or_swap true true = refl
-or_swap true false = refl
-or_swap false true = refl
-or_swap false false = refl
+use Rattle.meaning.proofs.Placed.{ups}
+use Rattle.std.proofs.Math.Bool.{or_comm, or-false}
 
 module _ {X : Type 0} (test : ℕ → Bool) (place : ℕ → X) where
   -- of rows k to k + m - 1
@@ -33,8 +28,8 @@ module _ {X : Type 0} (test : ℕ → Bool) (place : ℕ → X) where
       u = ups m (suc k) (λ c. test c && p (place c))
 
       go : (b : Bool) → some p l ≡ u → some p (cond b (place k ∷ l) l) ≡ u || (b && p (place k))
-      go true e = or_swap (p (place k)) (some p l) ∙ ap (λ z. z || p (place k)) e
-      go false e = e ∙ sym (or_false u)
+      go true e = or_comm (p (place k)) (some p l) ∙ ap (λ z. z || p (place k)) e
+      go false e = e ∙ sym (or-false u)
 
   pub record Gathered (m k : ℕ) (v : X) : Type 0 where
     pub row : ℕ

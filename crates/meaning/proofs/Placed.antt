@@ -3,27 +3,24 @@ use Prim.Native.Nat.{ℕ, zero, suc, ◌+◌, ◌≤◌, ◌<◌}
 use native.Mathlib.Omega.{arith}
 use native.Mathlib.Nat.{zero-add, suc-add, add-suc}
 use mathlib.Core.Path.{◌≡◌, refl, sym, ap, ◌∙◌}
-use mathlib.Core.Bool.{Bool, true, false, ◌&&◌, ◌||◌}
+use mathlib.Core.Bool.{Bool, false, ◌&&◌, ◌||◌}
 use lib.Dec.{eqb}
 use Rattle.meaning.specs.Bytes.{Bytes, label_is, text_is}
 use Rattle.meaning.specs.Tree.{Tree}
 use Rattle.meaning.specs.Fragment.{Rows}
 use Rattle.meaning.proofs.Says.{some}
 use Rattle.meaning.proofs.Tree.{Finite}
-use Rattle.meaning.proofs.Numbers.{eqb_false}
+use Rattle.std.proofs.lemmas.Bool.{ne_eqb}
+use Rattle.std.proofs.Math.Bool.{or-false}
 
 -- some row of k, .. k + m - 1 passes p
 abbrev pub ups : ℕ → ℕ → (ℕ → Bool) → Bool
 ups zero k p = false
 ups (suc m) k p = ups m (suc k) p || p k
 
-pub or_false : (b : Bool) → b || false ≡ b
-or_false true = refl
-or_false false = refl
-
 ups_skip : (p : ℕ → Bool) (m j k : ℕ) → ((i : ℕ) → k ≤ i → i < j + k → p i ≡ false) → ups (j + m) k p ≡ ups m (j + k) p
 ups_skip p m zero k h = rw (zero-add m, zero-add k) refl
-ups_skip p m (suc j) k h = rw (suc-add j m, suc-add j k, ← (add-suc j k), h k (omega arith) (omega arith)) (or_false (ups (j + m) (suc k) p) ∙ ups_skip p m j (suc k) (λ i y x. h i (omega arith) (omega arith)))
+ups_skip p m (suc j) k h = rw (suc-add j m, suc-add j k, ← (add-suc j k), h k (omega arith) (omega arith)) (or-false (ups (j + m) (suc k) p) ∙ ups_skip p m j (suc k) (λ i y x. h i (omega arith) (omega arith)))
 
 pub record Placed {t : Tree} (fin : Finite t) (R : Rows) (place : ℕ → t.N) : Type 0 where
   pub real : R.stands 0 ≡ false
@@ -47,4 +44,4 @@ kids_later fin R place P m k e r p = sym (P.kids_are k (omega arith) r p ∙ ap 
     e₂ = omega arith
 
     none : (i : ℕ) → 1 ≤ i → i < k + 1 → f i ≡ false
-    none i a b = ap (λ x. x && p (place i)) (eqb_false (R.parent i) k (omega (arith, P.parents i a (omega arith))))
+    none i a b = ap (λ x. x && p (place i)) (ne_eqb (R.parent i) k (omega (arith, P.parents i a (omega arith))))

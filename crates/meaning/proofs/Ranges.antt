@@ -24,7 +24,7 @@ use Rattle.std.specs.declared.ops.RangeInclusive.{RangeInclusive}
 use Rattle.std.specs.Range.{range_inclusive_start, range_inclusive_end, range_inclusive_exhausted, range_inclusive_contains}
 use Rattle.std.proofs.lemmas.Cmp.{ranked}
 use Rattle.meaning.specs.Says.{Says, aye, nay}
-use Rattle.meaning.proofs.Says.{says_true, says_false, says_and}
+use Rattle.meaning.proofs.Says.{says_true, says_false, says_and, says_iff}
 
 -- the numbers of a range
 abbrev numbers : Range ℕ → List ℕ
@@ -65,6 +65,24 @@ module _ {F : Type 0} {g : Mut F (ℕ × Unit {0}) Bool} (s u : Range ℕ) (f : 
           → Says ((k : ℕ) × (s.start ≤ k) × (k < s.end) × P k) b
       answer true h = aye (s.start + h.0, omega arith, omega (arith, long s, h.1), subst P (item s h.0 h.1) (h.2 0))
       answer false h = nay (λ w. within s (λ x. P x → ⊥) h w.0 w.1 w.2 w.3)
+
+-- the same of a range from 0
+module _ {F : Type 0} {g : Mut F (ℕ × Unit {0}) Bool} {n : ℕ} {u : Range ℕ} {f : F} {r : Bool} (P : ℕ → Type 0) where
+  pub says_below : (xs : List ℕ) × (o : Option ℕ) × (j : F) × YieldsThen nat_range_steps (record { start = 0; end = n }) xs o u × FoldsTo (λ p x q. Called g p (x, tt) true q) f xs j
+      × MatchOption o (r ≡ true) (λ x. (r ≡ false) × ((h : F) × Called g j (x, tt) false h))
+      → ((x : ℕ) (b : Bool) (q : F) → Called g f (x, tt) b q → (q ≡ f) × Says (P x) b)
+      → Says ((k : ℕ) → k < n → P k) r
+  says_below d call = says_iff (λ w k h. w k (omega arith) h) (λ w k l h. w k h) (says_all _ u f r P d call)
+
+  pub says_some : (xs : List ℕ) × (o : Option ℕ) × (j : F) × YieldsThen nat_range_steps (record { start = 0; end = n }) xs o u × FoldsTo (λ p x q. Called g p (x, tt) false q) f xs j
+      × MatchOption o (r ≡ false) (λ x. (r ≡ true) × ((h : F) × Called g j (x, tt) true h))
+      → ((x : ℕ) (b : Bool) (q : F) → Called g f (x, tt) b q → (q ≡ f) × Says (P x) b)
+      → Says ((k : ℕ) × (k < n) × P k) r
+  says_some d call = says_iff (λ t. (t.0, t.2, t.3)) (λ t. (t.0, omega arith, t.1, t.2)) (says_any _ u f r P d call)
+
+-- where all that has H lies in the range
+pub says_each : {H P : ℕ → Type 0} {n : ℕ} {r : Bool} → ((k : ℕ) → H k → k < n) → Says ((k : ℕ) → k < n → H k → P k) r → Says ((k : ℕ) → H k → P k) r
+says_each within s = says_iff (λ w k h. w k (within k h) h) (λ w k l h. w k h) s
 
 ranked_says : (x y : ℕ) (o : Ordering) → MatchOrdering o (x < y) (x ≡ y) (y < x) → Says (x ≤ y) (is_le o)
 ranked_says x y Less h = aye (omega arith)

@@ -17,13 +17,13 @@ use Rattle.meaning.specs.Register.{parent_of, numbered, children_of, Register, p
 use Rattle.meaning.specs.Promise.{ChildIsReal, ParentIs, OneParent, OneStandIn, Children}
 use Rattle.meaning.proofs.Says.{some}
 use Rattle.meaning.proofs.Tree.{Finite}
-use Rattle.meaning.proofs.Numbers.{eqb_true, eqb_is, ltb_true, ltb_is}
+use Rattle.std.proofs.lemmas.Bool.{eq-eqb, eqb-true, lt-ltb, ltb-true}
 use Rattle.meaning.proofs.Placed.{ups, Placed}
 use Rattle.meaning.proofs.Gather.{gather, gather_some, gather_has, gathered, Gathered}
 use Rattle.meaning.proofs.Fragment.{Upright, stand_in, row_inside, sound_upright}
 use Rattle.meaning.proofs.Reply.{Stood, stood, stands_in}
 
-and_both : (a b : Bool) → a && b ≡ true → (a ≡ true) × (b ≡ true)
+pub and_both : (a b : Bool) → a && b ≡ true → (a ≡ true) × (b ≡ true)
 and_both true b e = (refl, e)
 and_both false b e = absurd (false≢true e)
 
@@ -95,7 +95,7 @@ module _ (G : Register) where
     unfolding kid_test
     kid u v g =
         let t = and_both (ltb u.0 (parts G)) (eqb ((rows_in G u.0).parent g.row) u.1) g.passes in
-        record { row = g.row; part = ltb_is u.0 (parts G) t.0; lower = g.low; inside = omega (arith, g.high); under = eqb_is ((rows_in G u.0).parent g.row) u.1 t.1; is = g.is }
+        record { row = g.row; part = ltb-true u.0 (parts G) t.0; lower = g.low; inside = omega (arith, g.high); under = eqb-true ((rows_in G u.0).parent g.row) u.1 t.1; is = g.is }
 
     pub joined_finite : Finite (joined G)
     unfolding kid_test
@@ -103,7 +103,7 @@ module _ (G : Register) where
       kids = λ u. gather (kid_test u) (place G u.0) (rows_in G u.0).last 1;
       rank = rank;
       listed = λ u v j. subst (λ z. Memᴰ z (gather (kid_test u) (place G u.0) (rows_in G u.0).last 1)) j.is
-          (gather_has (kid_test u) (place G u.0) j.row (rows_in G u.0).last 1 j.lower (omega (arith, j.inside)) (ap₂ ◌&&◌ (ltb_true u.0 (parts G) j.part) (ap (λ p. eqb p u.1) j.under ∙ eqb_true u.1)));
+          (gather_has (kid_test u) (place G u.0) j.row (rows_in G u.0).last 1 j.lower (omega (arith, j.inside)) (ap₂ ◌&&◌ (lt-ltb u.0 (parts G) j.part) (ap (λ p. eqb p u.1) j.under ∙ eq-eqb u.1 u.1 refl)));
       child = λ u v i. kid u v (gathered (kid_test u) (place G u.0) v (rows_in G u.0).last 1 i);
       falls = λ u v i. falls u v (kid u v (gathered (kid_test u) (place G u.0) v (rows_in G u.0).last 1 i));
     }
@@ -117,18 +117,18 @@ module _ (G : Register) where
       label_agrees = λ k i e w. ap (λ u. label_is w ((rows_in G u.0).label u.1)) (sym (place_real f k e));
       text_agrees = λ k i e w. ap (λ u. text_is w ((rows_in G u.0).text u.1)) (sym (place_real f k e));
       kids_are = λ k i e p. ap (λ u. some p (joined_finite.kids u)) (place_real f k e) ∙ gather_some (kid_test (f, k)) (place G f) p (rows_in G f).last 1
-          ∙ ap (λ b. ups (rows_in G f).last 1 (λ c. (b && eqb ((rows_in G f).parent c) k) && p (place G f c))) (ltb_true f (parts G) h);
+          ∙ ap (λ b. ups (rows_in G f).last 1 (λ c. (b && eqb ((rows_in G f).parent c) k) && p (place G f c))) (lt-ltb f (parts G) h);
     }
 
     -- ONE STAND-IN FOR EACH FRAGMENT
     same_row : (f : ℕ) → f < parts G → (k k' g : ℕ) → StandsFor G f k g → StandsFor G f k' g → (k < k' → ⊥)
-    same_row f h k k' g s s' l = rule.new k l (eqb_is (num F k 1) 1 s.stands) (s.goes ∙ sym s'.goes)
+    same_row f h k k' g s s' l = rule.new k l (eqb-true (num F k 1) 1 s.stands) (s.goes ∙ sym s'.goes)
       where
         F : Fragment
         F = G.fragment f
 
         rule : StandIn f F k'
-        rule = stand_in f F k' ((c.sound f h).each k' (row_inside f F (c.sound f h) k' s'.inside)) (eqb_is (num F k' 1) 1 s'.stands)
+        rule = stand_in f F k' ((c.sound f h).each k' (row_inside f F (c.sound f h) k' s'.inside)) (eqb-true (num F k' 1) 1 s'.stands)
 
     one : (f k f' k' g : ℕ) → f < parts G → f' < parts G → StandsFor G f k g → StandsFor G f' k' g → (f ≡ f') × (k ≡ k')
     one f k f' k' g h h' s s' = (same, go (dec_lt k k') (dec_lt k' k))
@@ -220,13 +220,13 @@ numbered_in k (p ∷ l) i g m = go (eqb p k) refl (numbered_in k l (suc i) g) m
     first e h (Memᴰ.tail x) = later (h x)
 
     go : (b : Bool) → eqb p k ≡ b → (Memᴰ g (numbered k l (suc i)) → (j : ℕ) × (j < length l) × (g ≡ j + suc i) × (get_or l j 255 ≡ k)) → Memᴰ g (cond b (i ∷ numbered k l (suc i)) (numbered k l (suc i))) → Found
-    go true e h x = first (eqb_is p k e) h x
+    go true e h x = first (eqb-true p k e) h x
     go false e h x = later (h x)
 
 pub in_numbered : (k : ℕ) (l : Bytes) (i j : ℕ) → j < length l → get_or l j 255 ≡ k → Memᴰ (j + i) (numbered k l i)
 unfolding numbered
 in_numbered k [] i j h e = absurd (omega arith)
-in_numbered k (p ∷ l) i zero h e = rw (e, eqb_true k) (Memᴰ.head (zero-add i))
+in_numbered k (p ∷ l) i zero h e = rw (e, eq-eqb k k refl) (Memᴰ.head (zero-add i))
 in_numbered k (p ∷ l) i (suc j) h e = go (eqb p k) (subst (λ n. Memᴰ n (numbered k l (suc i))) (add-suc j i ∙ sym (suc-add j i)) (in_numbered k l (suc i) j (omega arith) e))
   where
     go : (b : Bool) → Memᴰ (suc j + i) (numbered k l (suc i)) → Memᴰ (suc j + i) (cond b (i ∷ numbered k l (suc i)) (numbered k l (suc i)))

@@ -20,8 +20,10 @@ use Rattle.meaning.proofs.Says.{some}
 use Rattle.meaning.proofs.Tree.{Finite, deep, deep_step}
 use Rattle.meaning.proofs.Entry.{sem, Agrees}
 use Rattle.meaning.proofs.Algebra.{Reading, Laws}
-use Rattle.meaning.proofs.Numbers.{eqb_true, eqb_false, upd_same, upd_other}
-use Rattle.meaning.proofs.Placed.{ups, or_false, Placed, kids_later}
+use Rattle.std.proofs.lemmas.Bool.{eq-eqb, ne_eqb}
+use Rattle.std.proofs.Math.Bool.{or-false}
+use Rattle.meaning.proofs.Numbers.{upd_same, upd_other}
+use Rattle.meaning.proofs.Placed.{ups, Placed, kids_later}
 
 module _ (A : Algebra) (M : Reading A) (L : Laws A M) where
   -- references lo to hi - 1 of f have the values g
@@ -228,10 +230,10 @@ module _ (A : Algebra) (M : Reading A) (L : Laws A M) where
         go : Dec (r ≡ par) → Span s' (upd T par x r) (λ e. val r e || (eqb par r && own e)) 0 (length es)
         go (yes e) = subst (λ r. Span s' (upd T par x r) (λ e. val r e || (eqb par r && own e)) 0 (length es)) (sym e)
             (subst (λ z. Span s' z (λ e. val par e || (eqb par par && own e)) 0 (length es)) (sym (upd_same T par x))
-            (subst (λ b. Span s' x (λ e. val par e || (b && own e)) 0 (length es)) (sym (eqb_true par)) new))
+            (subst (λ b. Span s' x (λ e. val par e || (b && own e)) 0 (length es)) (sym (eq-eqb par par refl)) new))
         go (no e) = subst (λ z. Span s' z (λ e. val r e || (eqb par r && own e)) 0 (length es)) (sym (upd_other T par x r e))
-            (subst (λ b. Span s' (T r) (λ e. val r e || (b && own e)) 0 (length es)) (sym (eqb_false par r (λ z. e (sym z))))
-            (span_of s' (T r) (val r) (λ e. val r e || false) (length es) (λ e. sym (or_false (val r e))) (span_keep (T r) (val r) 0 (length es) y (old r (omega arith)))))
+            (subst (λ b. Span s' (T r) (λ e. val r e || (b && own e)) 0 (length es)) (sym (ne_eqb par r (λ z. e (sym z))))
+            (span_of s' (T r) (val r) (λ e. val r e || false) (length es) (λ e. sym (or-false (val r e))) (span_keep (T r) (val r) 0 (length es) y (old r (omega arith)))))
 
     deliver_is : (m k : ℕ) (S : Tables A) → Swept m (suc k) S → Swept (suc m) k (deliver A R es var_v var_d (suc k) S)
     unfolding deliver

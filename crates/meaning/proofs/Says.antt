@@ -50,6 +50,10 @@ pub says_else : {A B : Type 0} {a v : Bool} → Says A a → a ≡ false → v �
 says_else (aye x) e q = absurd (true≢false e)
 says_else (nay r) e q = says_off (nay r) r q
 
+-- where A holds, `A → B` asks for B
+pub says_given : {A B : Type 0} {b : Bool} → A → Says B b → Says (A → B) b
+says_given a s = says_iff (λ b z. b) (λ k. k a) s
+
 pub says_self : (b : Bool) → Says (b ≡ true) b
 says_self true = aye refl
 says_self false = nay false≢true

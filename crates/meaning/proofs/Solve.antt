@@ -12,18 +12,20 @@ use Rattle.meaning.specs.Reply.{Reply}
 use Rattle.meaning.specs.Solve.{Values, assign, here_of, lower_of, solved, solve, no_values, waiting, said, is_heard, all_heard, outcome}
 use Rattle.meaning.specs.Lawful.{Right, Lawful}
 use Rattle.meaning.specs.Promise.{Waits, Solves}
-use Rattle.meaning.proofs.Numbers.{ltb_true, ltb_false, upd_same, upd_other}
+use Rattle.std.proofs.lemmas.Bool.{lt-ltb, le-ltb}
+use Rattle.std.proofs.Math.Bool.{and-false}
+use Rattle.meaning.proofs.Numbers.{upd_same, upd_other}
 
 -- THE VARIABLES of the stand-in at position p
 module _ (B : Truth) (n : ℕ) where
   pub assign_v : (l : List ℕ) (S : Values B.X) (p e : ℕ) → p < length l → e < n → assign B n l S (p * (2 * n) + e) ≡ S.v (get_or l p 0) e
   unfolding assign
   assign_v [] S p e k h = absurd (omega arith)
-  assign_v (g ∷ l) S zero e k h = let z : zero * (2 * n) + e ≡ e = omega arith in rw (z, ltb_true e n h) refl
+  assign_v (g ∷ l) S zero e k h = let z : zero * (2 * n) + e ≡ e = omega arith in rw (z, lt-ltb e n h) refl
   assign_v (g ∷ l) S (suc p) e k h =
       let x = suc p * (2 * n) + e in
       let z : x - 2 * n ≡ p * (2 * n) + e = omega arith in
-      rw (ltb_false x n (omega arith), ltb_false x (2 * n) (omega arith), z) (assign_v l S p e (omega arith) h)
+      rw (le-ltb x n (omega arith), le-ltb x (2 * n) (omega arith), z) (assign_v l S p e (omega arith) h)
 
   pub assign_d : (l : List ℕ) (S : Values B.X) (p e : ℕ) → p < length l → e < n → assign B n l S (p * (2 * n) + (n + e)) ≡ S.d (get_or l p 0) e
   unfolding assign
@@ -31,17 +33,13 @@ module _ (B : Truth) (n : ℕ) where
   assign_d (g ∷ l) S zero e k h =
       let z : zero * (2 * n) + (n + e) ≡ n + e = omega arith in
       let y : n + e - n ≡ e = omega arith in
-      rw (z, ltb_false (n + e) n (omega arith), ltb_true (n + e) (2 * n) (omega arith), y) refl
+      rw (z, le-ltb (n + e) n (omega arith), lt-ltb (n + e) (2 * n) (omega arith), y) refl
   assign_d (g ∷ l) S (suc p) e k h =
       let x = suc p * (2 * n) + (n + e) in
       let z : x - 2 * n ≡ p * (2 * n) + (n + e) = omega arith in
-      rw (ltb_false x n (omega arith), ltb_false x (2 * n) (omega arith), z) (assign_d l S p e (omega arith) h)
+      rw (le-ltb x n (omega arith), le-ltb x (2 * n) (omega arith), z) (assign_d l S p e (omega arith) h)
 
 -- ALL HEARD
-and_right : (a : Bool) → a && false ≡ false
-and_right true = refl
-and_right false = refl
-
 all_heard_lem : (heard : ℕ → Option Reply) (k : ℕ) → ((f : ℕ) → f < k → is_heard (heard f) ≡ true) → all_heard heard k ≡ true
 unfolding all_heard
 all_heard_lem heard zero h = refl
@@ -54,7 +52,7 @@ one_unheard heard (suc k) f h e = go (ℕ_discrete f k) (λ x. one_unheard heard
   where
     go : Dec (f ≡ k) → (f < k → all_heard heard k ≡ false) → is_heard (heard k) && all_heard heard k ≡ false
     go (yes p) r = ap (λ b. b && all_heard heard k) (ap (λ j. is_heard (heard j)) (sym p) ∙ e)
-    go (no p) r = ap (λ b. is_heard (heard k) && b) (r (omega arith)) ∙ and_right (is_heard (heard k))
+    go (no p) r = ap (λ b. is_heard (heard k) && b) (r (omega arith)) ∙ and-false (is_heard (heard k))
 
 pub waits : Waits
 unfolding outcome

@@ -22,7 +22,8 @@ use Rattle.meaning.proofs.Says.{says_and, says_self, says_same}
 use Rattle.meaning.proofs.Says as Lists
 use Rattle.meaning.proofs.Tree.{Finite, deep, deep_step, deep_says}
 use Rattle.meaning.proofs.Entry.{length_snoc}
-use Rattle.meaning.proofs.Numbers.{eqb_true, upd_same, upd_other}
+use Rattle.std.proofs.lemmas.Bool.{eq-eqb}
+use Rattle.meaning.proofs.Numbers.{upd_same, upd_other}
 use Rattle.meaning.proofs.Placed.{ups, kids_later}
 use Rattle.meaning.proofs.Fragment.{Upright, row_inside, sound_upright, alone_finite, alone_placed}
 use Rattle.meaning.proofs.Steps.{Cold, ColdOut, low_const, visit_size, visit_cold, push_size, push_free, push_cold}
@@ -41,7 +42,7 @@ unfolding sum count
 counts p q zero k = rw (zero-add k) (omega arith)
 counts p q (suc m) k = let e : suc m + k ≡ m + suc k = omega arith in rw e (omega (arith, counts p q m (suc k)))
 
-count_stand_ins : (R : Rows) (k : ℕ) → count R.stands k ≡ length (stand_ins R k)
+pub count_stand_ins : (R : Rows) (k : ℕ) → count R.stands k ≡ length (stand_ins R k)
 unfolding count stand_ins
 count_stand_ins R zero = refl
 count_stand_ins R (suc k) = go (R.stands k) (count_stand_ins R k)
@@ -172,7 +173,7 @@ module _ (R : Rows) (up : Upright R) (es : List (Entry Bytes)) (w : Earlier 0 es
 
           by : Dec (r ≡ par) → Cold n (upd S.c par p.c r) × Cold n (upd S.d par p.d r)
           by (yes z) =
-              let y : warm (suc k) ≡ false = subst (λ b. (b && warm (suc k)) ≡ false) (subst (λ u. eqb par u ≡ true) (sym z) (eqb_true par)) both.1 in
+              let y : warm (suc k) ≡ false = subst (λ b. (b && warm (suc k)) ≡ false) (subst (λ u. eqb par u ≡ true) (sym z) (eq-eqb par par refl)) both.1 in
               let old = I.cold par early (subst (λ u. warm_kid m (suc (suc k)) u ≡ false) z both.0) in
               let new = push_cold o.v o.d n n 0 (add-zero n) o.st (S.c par) (S.d par) (c.cold y).1 (c.cold y).2 old.0 old.1 in
               (subst (Cold n) (sym (ap (upd S.c par p.c) z ∙ upd_same S.c par p.c)) new.0, subst (Cold n) (sym (ap (upd S.d par p.d) z ∙ upd_same S.d par p.d)) new.1)

@@ -1,2 +1,3 @@
 -- What inner functions' contracts cite, and no reader has to believe.
 pub mod Kind
+pub mod Promise

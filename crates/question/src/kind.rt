@@ -14,7 +14,8 @@ pub enum Kind {
     Not = 8,
 }
 
-// A byte that no kind has.
+// A byte that no kind has. Fragment and reply have the like for a number: they share no crate with code, and one for three lines would
+// be no plainer.
 #[derive(Clone, Copy, Debug, PartialEq, Eq)]
 pub struct UnknownKind(pub u8);
 

@@ -1,9 +1,11 @@
 // The list of sub-questions by value, and its rules.
 #![tactic(auto)]
 
+pub mod entry;
 pub mod kind;
 pub mod rules;
 
+pub use entry::Entry;
 pub use kind::Kind;
 
 // A list of sub-questions: how many entries, and for each the byte of its kind and two operands; a word's are its start

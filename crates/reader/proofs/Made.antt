@@ -26,7 +26,7 @@ module _ {t : Bytes} where
     place = omega (arith, m.place, length-append p w);
     list = m.list;
     top = m.top;
-    most = m.most;
+    deepest = m.deepest;
   }
 
   pub after_byte : {s r : State} {n : ℕ} {w : Bytes} {a : Term Place} {k : ℕ → ℕ} (b : ℕ) → byte_at t s.at ≡ b → 0 < b → Made t (moved s (s.at + 1)) r n w a k → Made t s r n (b ∷ w) a k
@@ -39,7 +39,7 @@ module _ {t : Bytes} where
     place = omega (arith, m.place);
     list = m.list;
     top = m.top;
-    most = m.most;
+    deepest = m.deepest;
   }
 
   -- a closing bracket after a form
@@ -49,7 +49,7 @@ module _ {t : Bytes} where
     place = omega (arith, m.place, length-append w (b ∷ []));
     list = m.list;
     top = m.top;
-    most = m.most;
+    deepest = m.deepest;
   }
 
   -- an entry over a form, and over two
@@ -60,7 +60,7 @@ module _ {t : Bytes} where
     place = m.place;
     list = rw (m.list, m.top) (sym (emits s.list a));
     top = ap (λ l. l.count) m.list ∙ emitted_count a s.list ∙ sym (roots s.list.count a);
-    most = m.most;
+    deepest = m.deepest;
   }
 
   pub over_two : (kind : ℕ) (c : Term Place → Term Place → Term Place)
@@ -71,7 +71,7 @@ module _ {t : Bytes} where
     place = omega (arith, x.place, y.place, length-append w v);
     list = rw (second_top, x.top, second_list) (sym (emits s.list a b));
     top = ap (λ l. l.count) second_list ∙ emitted_count b (emitted a s.list) ∙ ap (λ n. suc (root n b)) first_count ∙ sym (roots s.list.count a b);
-    most = y.most ∙ ap j x.most;
+    deepest = y.deepest ∙ ap j x.deepest;
   }
     where
       first_count : (emitted a s.list).count ≡ suc (root s.list.count a)
@@ -88,9 +88,9 @@ module _ {t : Bytes} where
 
   pub nothing_made : {s : State} → Made t s (added s 0 0 0) s.list.count [] Term.self (λ x. x)
   unfolding root
-  nothing_made {s} = record { text = refl; place = omega arith; list = sym (emit_self s.list); top = refl; most = refl }
+  nothing_made {s} = record { text = refl; place = omega arith; list = sym (emit_self s.list); top = refl; deepest = refl }
 
   -- a word and its label entry
   pub label_made : {s : State} (w : Bytes) → drop s.at t ≡ w ++ drop (s.at + length w) t → Made t s (added (moved s (s.at + length w)) 1 s.at (length w)) s.list.count w (Term.label (s.at, length w)) (λ x. x)
   unfolding root
-  label_made {s} w e = record { text = e; place = refl; list = sym (emit_label s.list s.at (length w)); top = refl; most = refl }
+  label_made {s} w e = record { text = e; place = refl; list = sym (emit_label s.list s.at (length w)); top = refl; deepest = refl }

@@ -4,7 +4,7 @@ use native.Mathlib.Omega.{arith}
 use native.Mathlib.Nat.{zero-add}
 use native.Mathlib.Decide.{ℕ_discrete}
 use mathlib.Core.Path.{◌≡◌, refl, sym, ap, ap₂, ◌∙◌, subst}
-use mathlib.Core.Bool.{false}
+use mathlib.Core.Bool.{true, false, true≢false, false≢true}
 use mathlib.Core.List.{List, [], ◌∷◌, ◌++◌, append-nil}
 use lib.ListN.{length, get_or, drop}
 use lib.Seq.{drop-length}
@@ -23,9 +23,9 @@ use Rattle.reader.specs.Nesting.{nesting}
 use Rattle.reader.specs.Packed.{word_place, placed_entries, packed, empty_list}
 use Rattle.reader.specs.Read.{Written, Sized, Scan, ReadRefusal, Read, read_number, answer_of}
 use Rattle.reader.specs.declared.Refusal.{Refusal}
-use Rattle.std.specs.Prelude.{Result, Ok, Err}
+use Rattle.std.specs.Prelude.{Result, Ok, Err, Option, Some, None, is_some}
 use Rattle.question.specs.declared.List as L
-use Rattle.reader.specs.inner.Reading.{kept, emitted, Form, StandsAt, Nowhere, Found}
+use Rattle.reader.specs.inner.Reading.{kept, emitted, Form, StandsAt, Nowhere, Found, ReadsIn}
 use Rattle.question.specs.Listed.{Place, Keeps, listed}
 use Rattle.reader.specs.Promise.{OneRead, OneResult, ReadKeeps, ReadListed}
 use Rattle.reader.proofs.Emit.{kept_count}
@@ -35,7 +35,7 @@ use Rattle.reader.proofs.Pack.{kept_packed, all_small}
 use Rattle.reader.proofs.Placed.{words_small, packed_keeps, packed_listed}
 
 abbrev pub start : Bor Bytes → State
-start x = record { text = x; at = 0; depth = 0; most = 0; list = empty_list }
+start x = record { text = x; at = 0; depth = 0; deepest = 0; list = empty_list }
 
 one_tree : {t : Bytes} (w v : Written t) → w.tree ≡ v.tree
 one_tree w v = write_once w.tree v.tree (w.writes ∙ sym v.writes)
@@ -71,48 +71,70 @@ module _ {t : Bytes} where
 whole_text : {t : Bytes} (w : Written t) → StandsAt Form.question t 0 w.tree
 whole_text w = record { after = []; text = sym (append-nil (write_question w.tree) ∙ w.writes); follows = by_nothing }
 
-pub none_written : {t : Bytes} → Nowhere Form.question t 0 → Written t → ⊥
+none_written : {t : Bytes} → Nowhere Form.question t 0 → Written t → ⊥
 none_written f w = f.none w.tree (whole_text w)
 
 module _ {t : Bytes} {x : Bor Bytes} {s : State} {n : ℕ} (f : Found Form.question t (start x) s n) where
   -- a text of the grammar is read to its end
-  pub not_written : (s.at ≡ length t → ⊥) → Written t → ⊥
+  not_written : (s.at ≡ length t → ⊥) → Written t → ⊥
   not_written y w = y ((f.complete w.tree (whole_text w)).place ∙ zero-add (length (write_question w.tree)) ∙ ap length w.writes)
 
   -- what was read to its end is of the grammar
-  pub written : s.at ≡ length t → (w : Written t) × (s.most ≡ nesting w.tree) × (s.list ≡ kept (placed_entries w.tree) empty_list)
+  written : s.at ≡ length t → (w : Written t) × (s.deepest ≡ nesting w.tree) × (s.list ≡ kept (placed_entries w.tree) empty_list)
   unfolding emitted
   written e =
       let q = f.sound.0 in
       let m = f.sound.1 in
-      (record { tree = q; writes = sym (m.text ∙ ap (λ n. write_question q ++ drop n t) e ∙ ap (λ x. write_question q ++ x) (drop-length t) ∙ append-nil (write_question q)) }, m.most ∙ reach_all q, m.list)
+      (record { tree = q; writes = sym (m.text ∙ ap (λ n. write_question q ++ drop n t) e ∙ ap (λ x. write_question q ++ x) (drop-length t) ∙ append-nil (write_question q)) }, m.deepest ∙ reach_all q, m.list)
 
   -- the entries counted are those of the tree
   counted : (e : s.at ≡ length t) → s.list.count ≡ length (placed_entries (written e).0.tree)
   counted e = let w = written e in ap (λ l. l.count) w.2 ∙ count_kept (placed_entries w.0.tree)
 
-  pub too_deep : Sized t → s.at ≡ length t → 12 < s.most → Read t (answer_of (Err Refusal.TooNested))
-  too_deep h e d =
-      let w = written e in
-      refuses Refusal.TooNested (Unless.passed h (Unless.passed w.0 (Unless.refused (λ g. omega (arith, d, w.1, g w.0)))))
+-- a text of 1 to 255 bytes that was read to its end
+pub record Ended (t : Bytes) (x : Bor Bytes) (s : State) : Type 0 where
+  sized : Sized t
+  number : ℕ
+  found : Found Form.question t (start x) s number
+  end : s.at ≡ length t
 
-  module _ (h : Sized t) (e : s.at ≡ length t) (d : s.most ≤ 12) where
+-- what the reader of questions says, where it gives nothing, and where it gives a number
+module _ (t : Bytes) (x : Bor Bytes) (s : State) where
+  pub nothing : (o : Option ℕ) → is_some o ≡ false → ReadsIn Form.question t (start x) s o → Written t → ⊥
+  nothing None q f = none_written f
+  nothing (Some n) q f = absurd (true≢false q)
+
+  pub not_ended : (o : Option ℕ) → is_some o ≡ true → ReadsIn Form.question t (start x) s o → (s.at ≡ length t → ⊥) → Written t → ⊥
+  not_ended None q f = absurd (false≢true q)
+  not_ended (Some n) q f = not_written f
+
+  pub ended : Sized t → (o : Option ℕ) → is_some o ≡ true → ReadsIn Form.question t (start x) s o → s.at ≡ length t → Ended t x s
+  ended h None q f e = absurd (false≢true q)
+  ended h (Some n) q f e = record { sized = h; number = n; found = f; end = e }
+
+module _ {t : Bytes} {x : Bor Bytes} {s : State} (y : Ended t x s) where
+  pub too_deep : 12 < s.deepest → Read t (answer_of (Err Refusal.TooNested))
+  too_deep d =
+      let w = written y.found y.end in
+      refuses Refusal.TooNested (Unless.passed y.sized (Unless.passed w.0 (Unless.refused (λ g. omega (arith, d, w.1, g w.0)))))
+
+  module _ (d : s.deepest ≤ 12) where
     shallow : (w : Written t) → nesting w.tree ≤ 12
-    shallow = let w = written e in every (λ q. nesting q ≤ 12) w.0 (subst (λ n. n ≤ 12) w.1 d)
+    shallow = let w = written y.found y.end in every (λ q. nesting q ≤ 12) w.0 (subst (λ n. n ≤ 12) w.1 d)
 
     pub too_many : 32 < s.list.count → Read t (answer_of (Err Refusal.TooManyEntries))
-    too_many y =
-        let w = (written e).0 in
-        refuses Refusal.TooManyEntries (Unless.passed h (Unless.passed w (Unless.passed shallow (Unless.refused (λ few. omega (arith, y, counted e, few w))))))
+    too_many m =
+        let w = (written y.found y.end).0 in
+        refuses Refusal.TooManyEntries (Unless.passed y.sized (Unless.passed w (Unless.passed shallow (Unless.refused (λ few. omega (arith, m, counted y.found y.end, few w))))))
 
     pub all_read : s.list.count ≤ 32 → Read t (answer_of (Ok s.list))
-    all_read y =
-        let w = written e in
-        let few : length (placed_entries w.0.tree) ≤ 32 = omega (arith, counted e) in
+    all_read m =
+        let w = written y.found y.end in
+        let few : length (placed_entries w.0.tree) ≤ 32 = omega (arith, counted y.found y.end) in
         record {
-          why = Unless.passed h (Unless.passed w.0 (Unless.passed shallow (Unless.passed (every (λ q. length (placed_entries q) ≤ 32) w.0 few) Granted.granted)));
+          why = Unless.passed y.sized (Unless.passed w.0 (Unless.passed shallow (Unless.passed (every (λ q. length (placed_entries q) ≤ 32) w.0 few) Granted.granted)));
           refused = λ n. absurd (n refl);
-          listed = λ z v. w.2 ∙ kept_packed (placed_entries w.0.tree) few (all_small 0 (placed_entries w.0.tree) (omega arith) (flat_earlier (normal word_place 0 w.0.tree) 0) (words_small t w.0.tree h.1 w.0.writes)) ∙ ap (λ q. packed (placed_entries q)) (one_tree w.0 v);
+          listed = λ z v. w.2 ∙ kept_packed (placed_entries w.0.tree) few (all_small 0 (placed_entries w.0.tree) (omega arith) (flat_earlier (normal word_place 0 w.0.tree) 0) (words_small t w.0.tree y.sized.1 w.0.writes)) ∙ ap (λ q. packed (placed_entries q)) (one_tree w.0 v);
         }
 
 -- what is known of a text that is not refused by 1, 2 or 3

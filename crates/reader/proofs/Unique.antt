@@ -11,7 +11,7 @@ use Rattle.std.specs.List.{prefix_len}
 use Rattle.meaning.specs.Bytes.{Bytes, ascii}
 use Rattle.meaning.specs.Question.{Question, Conj, OneUnit, Steps, Rest, Begin, Sign, Move, Name, Quoted, is_name_byte, is_quotable, is_name, is_quoted, all, write_quoted}
 use Rattle.meaning.specs.Question.{write_question, write_unit, write_steps, write_rest}
-use Rattle.reader.specs.inner.Reading.{fronts, Path, write_path, Form, TreeOf, text_of, PathEnds, QuestionEnds, Follows, whole, item, sign}
+use Rattle.reader.specs.inner.Reading.{fronts, Path, write_path, Form, TreeOf, text_of, PathEnds, QuestionEnds, Follows, whole_chain, chain_part, sign}
 use Rattle.reader.specs.declared.grammar.Chain.{Chain}
 use Rattle.reader.specs.Promise.{WriteOnce}
 use Rattle.reader.proofs.Heads.{span_all, name_all, rest_head, step_class, StepKind, StepView, step_view, PathView, path_view, UnitKind, unit_class_of, UnitView, unit_view, RestKind, rest_class_of, RestView, rest_view, class_of_view, view_class, begin_class, move_class}
@@ -43,40 +43,40 @@ abbrev Same : (g : Form) → TreeOf g → Type 0
 Same g c = (d : TreeOf g) (z y : Bytes) → Follows g (get_or z 0 0) → Follows g (get_or y 0 0) → text_of g c ++ z ≡ text_of g d ++ y → (c ≡ d) × (z ≡ y)
 
 -- CHAINS, by their items
-abbrev AllSame : (c : Chain) → List (TreeOf (item c)) → Type 0
+abbrev AllSame : (c : Chain) → List (TreeOf (chain_part c)) → Type 0
 AllSame c [] = Unit {0}
-AllSame c (i ∷ is) = Same (item c) i × AllSame c is
+AllSame c (i ∷ is) = Same (chain_part c) i × AllSame c is
 
-all_snoc : (c : Chain) (is : List (TreeOf (item c))) (i : TreeOf (item c)) → AllSame c is → Same (item c) i → AllSame c (is ++ (i ∷ []))
+all_snoc : (c : Chain) (is : List (TreeOf (chain_part c))) (i : TreeOf (chain_part c)) → AllSame c is → Same (chain_part c) i → AllSame c (is ++ (i ∷ []))
 all_snoc c [] i a s = (s, tt)
 all_snoc c (j ∷ is) i a s = (a.0, all_snoc c is i a.1 s)
 
-record Items (c : Chain) (q : TreeOf (whole c)) : Type 0 where
+record Items (c : Chain) (q : TreeOf (whole_chain c)) : Type 0 where
   spine : Spine c q
-  first : Same (item c) spine.first
+  first : Same (chain_part c) spine.first
   more : AllSame c spine.more
 
 -- a byte that the whole may be followed by is no sign
-ends : (c : Chain) (b : ℕ) → Follows (whole c) b → b ≡ sign c → ⊥
+ends : (c : Chain) (b : ℕ) → Follows (whole_chain c) b → b ≡ sign c → ⊥
 ends Chain.Ors b f e = f.sign e
 ends Chain.Ands b f e = f.sign e
 
-same_more : (c : Chain) (is js : List (TreeOf (item c))) → AllSame c is → (z y : Bytes) → Follows (whole c) (get_or z 0 0) → Follows (whole c) (get_or y 0 0) → write_chain c is ++ z ≡ write_chain c js ++ y → (is ≡ js) × (z ≡ y)
+same_more : (c : Chain) (is js : List (TreeOf (chain_part c))) → AllSame c is → (z y : Bytes) → Follows (whole_chain c) (get_or z 0 0) → Follows (whole_chain c) (get_or y 0 0) → write_chain c is ++ z ≡ write_chain c js ++ y → (is ≡ js) × (z ≡ y)
 unfolding write_chain
 same_more c [] [] a z y f g e = (refl, e)
 same_more c [] (j ∷ js) a z y f g e = absurd (ends c (get_or z 0 0) f (ap (λ l. get_or l 0 0) e))
 same_more c (i ∷ is) [] a z y f g e = absurd (ends c (get_or y 0 0) g (ap (λ l. get_or l 0 0) (sym e)))
 same_more c (i ∷ is) (j ∷ js) a z y f g e =
-    let k : text_of (item c) i ++ (write_chain c is ++ z) ≡ text_of (item c) j ++ (write_chain c js ++ y) = sym (append_assoc (text_of (item c) i) (write_chain c is) z) ∙ ap (drop 1) e ∙ append_assoc (text_of (item c) j) (write_chain c js) y in
+    let k : text_of (chain_part c) i ++ (write_chain c is ++ z) ≡ text_of (chain_part c) j ++ (write_chain c js ++ y) = sym (append_assoc (text_of (chain_part c) i) (write_chain c is) z) ∙ ap (drop 1) e ∙ append_assoc (text_of (chain_part c) j) (write_chain c js) y in
     let h = a.0 j (write_chain c is ++ z) (write_chain c js ++ y) (heads c is z f) (heads c js y g) k in
     let r = same_more c is js a.1 z y f g h.1 in
     (ap₂ (λ x l. x ∷ l) h.0 r.0, r.1)
 
 -- the text of a whole, by its spine
-split : (c : Chain) (q : TreeOf (whole c)) (s : Spine c q) (z : Bytes) → text_of (whole c) q ++ z ≡ text_of (item c) s.first ++ (write_chain c s.more ++ z)
-split c q s z = ap (λ x. text_of (whole c) x ++ z) s.is ∙ ap (λ x. x ++ z) (grown_text c (single c s.first) s.more ∙ ap (λ x. x ++ write_chain c s.more) (single_text c s.first)) ∙ append_assoc (text_of (item c) s.first) (write_chain c s.more) z
+split : (c : Chain) (q : TreeOf (whole_chain c)) (s : Spine c q) (z : Bytes) → text_of (whole_chain c) q ++ z ≡ text_of (chain_part c) s.first ++ (write_chain c s.more ++ z)
+split c q s z = ap (λ x. text_of (whole_chain c) x ++ z) s.is ∙ ap (λ x. x ++ z) (grown_text c (single c s.first) s.more ∙ ap (λ x. x ++ write_chain c s.more) (single_text c s.first)) ∙ append_assoc (text_of (chain_part c) s.first) (write_chain c s.more) z
 
-same_whole : (c : Chain) (q : TreeOf (whole c)) → Items c q → (other : (d : TreeOf (whole c)) → Spine c d) → Same (whole c) q
+same_whole : (c : Chain) (q : TreeOf (whole_chain c)) → Items c q → (other : (d : TreeOf (whole_chain c)) → Spine c d) → Same (whole_chain c) q
 same_whole c q a other d z y f g e =
     let s = a.spine in
     let o = other d in
@@ -85,7 +85,7 @@ same_whole c q a other d z y f g e =
     (s.is ∙ ap₂ (λ x l. grown c (single c x) l) h.0 r.0 ∙ sym o.is, r.1)
 
 -- one item more
-more_items : (c : Chain) (q : TreeOf (whole c)) (i : TreeOf (item c)) → Items c q → Same (item c) i → Items c (joined c q i)
+more_items : (c : Chain) (q : TreeOf (whole_chain c)) (i : TreeOf (chain_part c)) → Items c q → Same (chain_part c) i → Items c (joined c q i)
 unfolding next
 more_items c q i a s = record { spine = next c q i a.spine; first = a.first; more = all_snoc c a.spine.more i a.more s }
 

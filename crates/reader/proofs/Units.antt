@@ -70,7 +70,7 @@ module _ {t : Bytes} where
     place = ap (λ k. k.at) i ∙ omega (arith, length-append f (write_quoted w), length-append w.bytes (34 ∷ []));
     list = ap (λ k. k.list) i ∙ sym (emits s.list (s.at + n + 1) (length w.bytes));
     top = sym (roots s.list.count (s.at + n + 1, length w.bytes));
-    most = ap (λ k. k.most) i;
+    deepest = ap (λ k. k.deepest) i;
   }
 
   -- UNITS

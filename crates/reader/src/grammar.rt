@@ -4,7 +4,7 @@
 ghost use Rattle.std.specs.Prelude.{◌≡◌, true, ◌<◌, ◌≤◌, length};
 ghost use Rattle.meaning.specs.Question.{is_letter};
 ghost use Rattle.question.specs.inner.Kind.{code};
-ghost use Rattle.reader.specs.inner.Reading.{byte_at, Form, whole, item, sign, kind_of, Ready, Reads, Quotes};
+ghost use Rattle.reader.specs.inner.Reading.{byte_at, Form, whole_chain, chain_part, sign, kind_of, Ready, Reads, Quotes};
 
 use crate::state::State;
 use crate::word::Word;
@@ -62,32 +62,32 @@ pub(crate) fn question(s: &mut State) -> Option<usize>
     requires { Ready s.old }
     ensures { Reads Form.question s.old s.new result }
 {
-    whole(s, Chain::Ors)
+    whole_chain(s, Chain::Ors)
 }
 
 // A whole chain: a question, or conj := unit ('&' unit)*.
 #[cycle(reading)]
-fn whole(s: &mut State, c: Chain) -> Option<usize>
+fn whole_chain(s: &mut State, c: Chain) -> Option<usize>
     requires { Ready s.old }
-    ensures { Reads (whole c) s.old s.new result }
+    ensures { Reads (whole_chain c) s.old s.new result }
 {
-    let mut top = item(s, c)?;
+    let mut top = chain_part(s, c)?;
     while s.here(c.sign()) {
         s.at += 1;
-        let right = item(s, c)?;
+        let right = chain_part(s, c)?;
         top = s.add(c.kind(), top, right);
     }
     Some(top)
 }
 
-// An item of a chain.
+// A part of a chain: a conjunction or a unit. The grammar's readers call each other, so which comes next is a match.
 #[cycle(reading)]
-fn item(s: &mut State, c: Chain) -> Option<usize>
+fn chain_part(s: &mut State, c: Chain) -> Option<usize>
     requires { Ready s.old }
-    ensures { Reads (item c) s.old s.new result }
+    ensures { Reads (chain_part c) s.old s.new result }
 {
     match c {
-        Chain::Ors => whole(s, Chain::Ands),
+        Chain::Ors => whole_chain(s, Chain::Ands),
         Chain::Ands => unit(s),
     }
 }
@@ -109,12 +109,10 @@ fn unit(s: &mut State) -> Option<usize>
         s.shut(b')')?;
         return Some(q);
     }
-    if s.stands(b"label()=") {
-        s.at += 8;
+    if s.eat(b"label()=") {
         return quoted(s, Kind::Label);
     }
-    if s.stands(b"text()=") {
-        s.at += 7;
+    if s.eat(b"text()=") {
         return quoted(s, Kind::Text);
     }
     path(s)
@@ -126,8 +124,7 @@ fn path(s: &mut State) -> Option<usize>
     requires { Ready s.old }
     ensures { Reads Form.path s.old s.new result }
 {
-    if s.stands(b"//") {
-        s.at += 2;
+    if s.eat(b"//") {
         let r = steps(s)?;
         return Some(s.add(Kind::Below, r, 0));
     }
@@ -189,12 +186,10 @@ fn rest(s: &mut State) -> Option<usize>
     if !s.here(b'/') {
         return Some(s.add(Kind::Itself, 0, 0));
     }
-    if s.stands(b"/text()=") {
-        s.at += 8;
+    if s.eat(b"/text()=") {
         return quoted(s, Kind::Text);
     }
-    if s.stands(b"//") {
-        s.at += 2;
+    if s.eat(b"//") {
         let r = steps(s)?;
         return Some(s.add(Kind::Below, r, 0));
     }

@@ -43,6 +43,7 @@ impl From<Result<List, Refusal>> for Answer {
     }
 }
 
+// A constant, since both an answer and a state begin with it; no plainer by `Default`.
 const NOTHING: List = List {
     count: 0,
     kinds: [0; 32],
@@ -61,16 +62,13 @@ pub fn question_read(text: &[u8]) -> Result<List, Refusal>
         text,
         at: 0,
         depth: 0,
-        most: 0,
+        deepest: 0,
         list: NOTHING,
     };
-    let Some(_) = question(&mut s) else {
-        return Err(Refusal::NotAQuestion);
-    };
-    if s.at != text.len() {
+    if question(&mut s).is_none() || s.at != text.len() {
         return Err(Refusal::NotAQuestion);
     }
-    if 12 < s.most {
+    if 12 < s.deepest {
         return Err(Refusal::TooNested);
     }
     if 32 < s.list.count {

@@ -1,5 +1,5 @@
 // How far reading has come, and the list of what was read.
-ghost use Rattle.std.specs.Prelude.{◌≡◌, ◌≢◌, ◌<◌, ◌≤◌, ◌+◌, length, MatchOption, drop, nat_eq};
+ghost use Rattle.std.specs.Prelude.{◌≡◌, ◌≢◌, ◌<◌, ◌≤◌, ◌+◌, length, MatchOption, drop, MatchBool, cond};
 ghost use Rattle.meaning.specs.Question.{is_letter};
 ghost use Rattle.std.specs.List.{prefix_len};
 ghost use Rattle.question.specs.inner.Kind.{code};
@@ -8,14 +8,14 @@ ghost use Rattle.reader.specs.inner.Reading.{added, deepened, moved, closed, byt
 use crate::word::Word;
 use question::{Kind, List};
 
-// Where reading stands: the text, the place in it, how many brackets are open and the most that ever were, and the entries, of
-// which the first 32 are kept.
+// Where reading stands: the text, the place in it, how many brackets are open, the deepest that they ever were, and the entries,
+// of which the first 32 are kept.
 #[derive(Drop)]
 pub(crate) struct State<'a> {
     pub text: &'a [u8],
     pub at: usize,
     pub depth: usize,
-    pub most: usize,
+    pub deepest: usize,
     pub list: List,
 }
 
@@ -23,17 +23,22 @@ impl State<'_> {
     // Whether the byte b stands here.
     pub(crate) fn here(&self, b: u8) -> bool
         requires { 0 < b }
-        ensures { result ≡ nat_eq (byte_at self.now.text.now self.now.at) b }
+        ensures { MatchBool result (byte_at self.now.text.now self.now.at ≡ b) (byte_at self.now.text.now self.now.at ≢ b) }
     {
         self.text.get(self.at).is_some_and(|x| *x == b)
     }
 
-    // Whether the bytes `b` stand here.
-    pub(crate) fn stands(&self, b: &[u8]) -> bool
-        requires { self.now.at ≤ length self.now.text.now }
-        ensures { result ≡ fronts b.now (drop self.now.at self.now.text.now) }
+    // Whether the bytes `b` stand here; if so, past them.
+    pub(crate) fn eat(&mut self, b: &[u8]) -> bool
+        requires { self.old.at ≤ length self.old.text.now }
+        ensures stood { result ≡ fronts b.now (drop self.old.at self.old.text.now) }
+        ensures past { self.new ≡ cond result (moved self.old (self.old.at + length b.now)) self.old }
     {
-        self.text[self.at..].starts_with(b)
+        if !self.text[self.at..].starts_with(b) {
+            return false;
+        }
+        self.at += b.len();
+        true
     }
 
     // Whether a letter stands here.
@@ -80,7 +85,7 @@ impl State<'_> {
     {
         self.at += 1;
         self.depth += 1;
-        self.most = self.most.max(self.depth);
+        self.deepest = self.deepest.max(self.depth);
     }
 
     // Past the byte b, if it stands here.

@@ -12,7 +12,7 @@ use lib.Seq.{take-append_seam}
 use lib.Dec.{eqb}
 use Rattle.meaning.specs.Bytes.{Bytes}
 use Rattle.meaning.specs.Reply.{Reply}
-use Rattle.meaning.proofs.Numbers.{eqb_false}
+use Rattle.std.proofs.lemmas.Bool.{ne_eqb}
 use Rattle.reply.specs.Write.{write}
 use Rattle.reply.specs.Read.{Is}
 use Rattle.whole.specs.Whole.{Whole, Opened, Heard, part_of}
@@ -146,7 +146,7 @@ module _ (R : Round) (a : Asked R) where
         new = Keeping.heard_new d store s w.sizes p w.opened
 
         on : heard_bit q' f ≡ true
-        on = ap not (eqb_false (get_or q'.heard f 0) 0 new.1)
+        on = ap not (ne_eqb (get_or q'.heard f 0) 0 new.1)
 
         hears : (g : ℕ) → g < many R a → H g ⊎ (g ≡ f) → Heard q' g
         hears g h (inl k) = Keeping.heard_kept d store s w.sizes p w.opened (w.heard g h k)

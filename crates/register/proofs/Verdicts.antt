@@ -14,7 +14,6 @@ use Rattle.meaning.specs.Reply.{Reply, laid_down}
 use Rattle.meaning.specs.Register.{parts}
 use Rattle.meaning.specs.Lawful.{Lawful, HereIn, LowerIn}
 use Rattle.meaning.specs.Solve.{said, outcome}
-use Rattle.meaning.proofs.Numbers.{eqb_false}
 use Rattle.meaning.proofs.Register.{children}
 use Rattle.meaning.proofs.Lawful.{depot_lawful}
 use Rattle.meaning.proofs.Solve.{waits, solves}
@@ -97,9 +96,6 @@ module _ (R : Round) (a : Asked R) where
 
     low : (f : ℕ) → f < many → f < 32
     low f h = omega (arith, h, a.cut.layout.most)
-
-    pub bit_on : (f : ℕ) → Heard d.question f → heard_bit d.question f ≡ true
-    bit_on f h = ap not (eqb_false (get_or d.question.heard f 0) 0 h.1)
 
     pub told : (f : ℕ) → f < many → Heard d.question f ⊎ (get_or d.question.heard f 0 ≡ 0)
     told f h = go (ℕ_discrete (get_or d.question.heard f 0) 0)

@@ -11,16 +11,21 @@ use native.Mathlib.Decide.{ℕ_discrete}
 use lib.ListN.{length, get_or, set, replicate, length-set}
 use lib.Seq.{get_or-set_same, get_or-set_other}
 use Rattle.bits.specs.Fields.{field_at}
-use Rattle.bits.proofs.Laws.{field_lt, one_more}
+use Rattle.bits.proofs.Laws.{field_lt}
 use Rattle.meaning.specs.Says.{Says, nay}
 use Rattle.meaning.proofs.Says.{says_iff}
 use Rattle.reply.specs.inner.Decode.{ref_width, in_at, ref_from, step_from, ref_at, step_at}
 use Rattle.reply.specs.inner.Checked.{RefOk, OperandOk, StepOk, StepGood, RefGood, InGood}
 use Rattle.reply.proofs.Lists.{up_to_suc}
-use Rattle.reply.specs.inner.Fields.{kind_code, op_code, HeadIs, RefIs, StepIs}
+use Rattle.reply.specs.inner.Fields.{kind_code, op_code, Decodes, HeadIs, RefIs, StepIs}
 use Rattle.reply.specs.declared.Head.{Head}
 use Rattle.reply.specs.declared.RefKind.{RefKind}
-use Rattle.reply.specs.declared.RefField.{RefField}
+use Rattle.reply.specs.declared.Op.{Op}
+use Rattle.reply.specs.declared.UnknownOp.{UnknownOp}
+use Rattle.std.specs.Prelude.{Option, Result, Ok, Err}
+use Rattle.std.specs.Result.{result_ok}
+use Rattle.bits.specs.declared.Field.{Field}
+use Rattle.reply.specs.declared.Reference.{Reference}
 use Rattle.reply.specs.declared.StepField.{StepField}
 
 -- what was read at p was read at q, where these are the same place
@@ -41,10 +46,15 @@ head_of s h r a b d e f = record {
   steps_lt = rw f (field_lt s 47 13 (omega arith));
 }
 
-pub ref_of : (w : ℕ) (s : List ℕ) (at : ℕ) (r : RefField) → at + ref_width w ≤ 8 * length s → kind_code r.value.kind ≡ field_at s at 2 → r.value.number ≡ field_at s (at + 2) w → r.next.at ≡ at + ref_width w → RefIs w s at r
+pub ref_of : (w : ℕ) (s : List ℕ) (at : ℕ) (r : Field Reference) → at + ref_width w ≤ 8 * length s → kind_code r.value.kind ≡ field_at s at 2 → r.value.number ≡ field_at s (at + 2) w → r.next.at ≡ at + ref_width w → RefIs w s at r
 ref_of w s at r h a b n = record { kind_is = a; number_is = b; next_is = n; number_lt = rw b (field_lt s (at + 2) w (omega arith)) }
 
-pub step_of : (w : ℕ) (s : List ℕ) (at : ℕ) (t : StepField) (p q : ℕ) (a b : RefField) → op_code t.op ≡ field_at s at 2 → RefIs w s p a → RefIs w s q b → p ≡ at + 2 → q ≡ at + 2 + ref_width w
+-- two bits name an operation, or are 3
+pub op_is : (code : ℕ) (r : Result Op UnknownOp) {o : Option Op} → code < 4 → o ≡ result_ok r → Decodes code r → op_code o ≡ code
+op_is code (Ok op) l e h = rw e h
+op_is code (Err x) l e h = rw e (omega (arith, h.1))
+
+pub step_of : (w : ℕ) (s : List ℕ) (at : ℕ) (t : StepField) (p q : ℕ) (a b : Field Reference) → op_code t.op ≡ field_at s at 2 → RefIs w s p a → RefIs w s q b → p ≡ at + 2 → q ≡ at + 2 + ref_width w
     → t.left ≡ a.value → t.right ≡ b.value → StepIs w s at t
 step_of w s at t p q a b o x y ep eq l r = record {
   op_is = o;
@@ -97,12 +107,12 @@ module _ (w : ℕ) (s : List ℕ) (at n m : ℕ) where
   step_good t h =
       ((λ g. rw (h.op_is, h.left_kind_is, h.left_number_is, h.right_kind_is, h.right_number_is) at g), (λ g. rw (h.op_is, h.left_kind_is, h.left_number_is, h.right_kind_is, h.right_number_is) g))
 
-  pub ref_good : (t : RefField) → RefIs w s at t
+  pub ref_good : (t : Field Reference) → RefIs w s at t
       → (RefOk n m (kind_code t.value.kind) t.value.number → RefGood w s n m at) × (RefGood w s n m at → RefOk n m (kind_code t.value.kind) t.value.number)
   ref_good t h = ((λ g. rw (h.kind_is, h.number_is) at g), (λ g. rw (h.kind_is, h.number_is) g))
 
 -- what was read, as a reference and as a step
-pub ref_from_lem : (w : ℕ) (s : List ℕ) (at : ℕ) (t : RefField) → RefIs w s at t → ref_at w s at ≡ ref_from (kind_code t.value.kind) t.value.number
+pub ref_from_lem : (w : ℕ) (s : List ℕ) (at : ℕ) (t : Field Reference) → RefIs w s at t → ref_at w s at ≡ ref_from (kind_code t.value.kind) t.value.number
 unfolding ref_at
 ref_from_lem w s at t h = rw (h.kind_is, h.number_is) refl
 
@@ -111,15 +121,12 @@ pub step_from_lem : (w : ℕ) (s : List ℕ) (at : ℕ) (t : StepField) → Step
 unfolding step_at ref_at
 step_from_lem w s at t h = rw (h.op_is, h.left_kind_is, h.left_number_is, h.right_kind_is, h.right_number_is) refl
 
--- the place of the next of fields that are W wide, and room for it
+-- the place of the next of fields that are W wide
 pub next_place : (W a i : ℕ) → a + W * (i + 1) ≡ a + W * i + W
 next_place W a i = rw (add-one, mul-suc) (omega arith)
 
 pub first_place : (W a : ℕ) → a ≡ a + W * 0
 first_place W a = rw mul-zero (omega arith)
-
-pub room_here : (W a i n e : ℕ) → i < n → a + W * n ≤ e → a + W * i + W ≤ e
-room_here W a i n e h r = omega (arith, one_more W i n h)
 
 -- ---- stand-ins met so far: `met` is true at each of the first i, and nowhere else
 pub record Met (s : List ℕ) (i : ℕ) (met : List Bool) : Type 0 where
@@ -127,13 +134,13 @@ pub record Met (s : List ℕ) (i : ℕ) (met : List Bool) : Type 0 where
   pub marked : (j : ℕ) → j < i → get_or met (in_at s j) false ≡ true
   pub only : (x : ℕ) → get_or met x false ≡ true → (j : ℕ) × (j < i) × (in_at s j ≡ x)
 
+pub unmarked : (n x : ℕ) → get_or (replicate n false) x false ≡ false
+unmarked zero x = refl
+unmarked (suc n) zero = refl
+unmarked (suc n) (suc x) = unmarked n x
+
 pub met_none : (s : List ℕ) → Met s 0 (replicate 32 false)
 met_none s = record { size = refl; marked = λ j h. absurd (omega arith); only = λ x h. absurd (true≢false (sym h ∙ unmarked 32 x)) }
-  where
-    unmarked : (n x : ℕ) → get_or (replicate n false) x false ≡ false
-    unmarked zero x = refl
-    unmarked (suc n) zero = refl
-    unmarked (suc n) (suc x) = unmarked n x
 
 module _ (s : List ℕ) (f i x : ℕ) (met : List Bool) (h : Met s i met) (e : x ≡ in_at s i) where
   pub met_more : x < 32 → Met s (i + 1) (set met x true)

@@ -17,14 +17,14 @@ use Rattle.meaning.proofs.Says.{says_iff, says_and}
 use Rattle.reply.specs.Write.{reply_bits, write}
 use Rattle.reply.specs.WellFormed.{vars, WellFormed, Fits}
 use Rattle.reply.specs.Read.{Is}
-use Rattle.reply.specs.inner.Decode.{ref_width, step_width, ins_to, steps_to, v_to, number_of, fragment_of, entries_of, ins_of, steps_of, in_at, ref_at, step_at, decoded, well_formed, fits, read}
+use Rattle.reply.specs.inner.Decode.{ref_width, step_width, ins_to, steps_to, v_to, number_of, fragment_of, entries_of, ins_of, in_at, ref_at, step_at, decoded, well_formed, fits, read}
 use Rattle.reply.specs.inner.Checked.{Checked}
 use Rattle.reply.specs.inner.Promise.{SizeIs}
 use Rattle.reply.specs.Promise.{RoundTrip, OneReply, Fits12, MostBytes}
 use Rattle.reply.proofs.Tests.{says_same_bytes}
 use Rattle.reply.proofs.ReadTests.{says_formed, says_fits}
 use Rattle.reply.proofs.Checked.{Writes, checked_formed, checked_writes}
-use Rattle.reply.proofs.Parts.{bits_length, is_decoded, is_checked, number_read, fragment_read, entries_read, ins_read, steps_read, in_read, step_read, v_read, d_read}
+use Rattle.reply.proofs.Parts.{bits_length, is_decoded, is_checked, number_read, fragment_read, entries_read, ins_read, in_read, step_read, v_read, d_read}
 
 -- ---- bytes and bits
 pub writes_bits : (w : ℕ) (r : Reply) (s : Bytes) → write w r ≡ s → Writes w r s
@@ -79,7 +79,6 @@ pub record Fields (w : ℕ) (s : Bytes) (r : Reply) : Type 0 where
   pub fragment_is : fragment_of s ≡ r.fragment
   pub entries_is : entries_of s ≡ r.entries
   pub ins_are : ins_of s ≡ length r.ins
-  pub steps_are : steps_of s ≡ length r.steps
   pub in_is : (i : ℕ) → i < length r.ins → in_at s i ≡ get_or r.ins i 0
   pub step_is : (i : ℕ) → i < length r.steps → step_at w s (ins_to (length r.ins) + step_width w * i) ≡ get_or r.steps i (Step.not Ref.low)
   pub v_is : (e : ℕ) → e < r.entries → ref_at w s (steps_to w (length r.ins) (length r.steps) + ref_width w * e) ≡ get_or r.v e Ref.low
@@ -95,7 +94,6 @@ fields_of w s r i =
       fragment_is = fragment_read w s r g x q;
       entries_is = entries_read w s r g x q;
       ins_are = ins_read w s r g x q;
-      steps_are = steps_read w s r g x q;
       in_is = in_read w s r g x q;
       step_is = λ j l. (step_read w s r g x q j l).1;
       v_is = λ e l. (v_read w s r g x q e l).1;

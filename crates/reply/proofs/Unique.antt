@@ -12,7 +12,8 @@ use Rattle.reply.specs.inner.Fields.{kind_code, op_code}
 use Rattle.reply.specs.declared.Head.{Head}
 use Rattle.reply.specs.declared.RefKind.{RefKind}
 use Rattle.reply.specs.declared.Op.{Op}
-use Rattle.reply.specs.declared.RefField.{RefField}
+use Rattle.bits.specs.declared.Field.{Field}
+use Rattle.reply.specs.declared.Reference.{Reference}
 use Rattle.reply.specs.declared.StepField.{StepField}
 
 pub one_check : OneCheck
@@ -75,7 +76,7 @@ one_kind a b e = sym (kind_of_code a) ∙ ap kind_back e ∙ kind_of_code b
 one_op : (a b : Option Op) → op_code a ≡ op_code b → a ≡ b
 one_op a b e = sym (op_of_code a) ∙ ap op_back e ∙ op_of_code b
 
-field : RefKind → ℕ → ℕ → RefField
+field : RefKind → ℕ → ℕ → Field Reference
 field k n at = record { value = record { kind = k; number = n }; next = record { at = at } }
 
 step : Option Op → RefKind → ℕ → RefKind → ℕ → StepField

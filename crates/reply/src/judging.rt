@@ -2,12 +2,13 @@
 ghost use Rattle.std.specs.Prelude.{◌≡◌, ◌+◌, ◌*◌, ◌^◌, ◌≤◌, ◌<◌, length};
 ghost use Rattle.meaning.specs.Says.{Says};
 ghost use Rattle.reply.specs.Read.{Checks, check_number};
-ghost use Rattle.reply.specs.inner.Decode.{ref_width, step_width, ins_to, end_of};
+ghost use Rattle.reply.specs.inner.Decode.{ref_width, step_width, ins_to};
 ghost use Rattle.reply.specs.inner.Fields.{kind_code, op_code, HeadIs};
 ghost use Rattle.reply.specs.inner.Checked.{RefOk, OperandOk, StepOk, RefGood, StepGood, InGood, Checked, SizesOk};
 
 use crate::{
-    HEAD_TO, Head, Op, RefKind, Reference, StepField, header, take_in, take_ref, take_step,
+    Head, MOST_STEPS, Op, RefKind, Reference, StepField, WIDTH, header, take_in, take_ref,
+    take_step,
 };
 use bits::Cursor;
 
@@ -26,8 +27,6 @@ impl From<NotAReply> for u8 {
 
 // The most bytes that a reply has.
 const MOST_BYTES: usize = 15_499;
-
-const MOST_STEPS: usize = 4096;
 
 // How many variables and steps a reference may name.
 #[derive(Clone, Copy)]
@@ -98,46 +97,29 @@ fn ins_ok(s: &[u8], fragment: u32, count: usize) -> bool
     true
 }
 
-// Whether the step at bit `at`, the i-th of the list, may stand there.
-fn step_ok(s: &[u8], w: usize, at: usize, vars: usize, i: usize) -> bool
-    requires { (at + step_width w ≤ 8 * length s.now) × (at + step_width w < 2 ^ 64) × (w ≤ 32) }
-    ensures { Says (StepGood w s.now vars i at) result }
-{
-    take_step(Cursor { at }, s, w).is_good(Counts { vars, steps: i })
-}
-
+// Whether each step, from bit `at` on, may stand where it does in the list. The width and the place are those of `take_step`.
 fn steps_ok(s: &[u8], w: usize, at: usize, count: usize, vars: usize) -> bool
     requires { (at + step_width w * count ≤ 8 * length s.now) × (at + step_width w * count < 2 ^ 64) × (w ≤ 32) }
     ensures { Says ((i : _) → i < count → StepGood w s.now vars i (at + step_width w * i)) result }
 {
-    let ref_width = 2 + w;
-    let step_width = 2 + (ref_width + ref_width);
-    (0..count).all(|i| step_ok(s, w, at + step_width * i, vars, i))
+    let step_width = 2 + 2 * (2 + w);
+    (0..count).all(|i| {
+        let here = at + step_width * i;
+        take_step(Cursor { at: here }, s, w).is_good(Counts { vars, steps: i })
+    })
 }
 
-// Whether the reference at bit `at` may stand as a result.
-fn ref_ok(s: &[u8], w: usize, at: usize, counts: Counts) -> bool
-    requires { (at + ref_width w ≤ 8 * length s.now) × (at + ref_width w < 2 ^ 64) × (w ≤ 32) }
-    ensures { Says (RefGood w s.now counts.vars counts.steps at) result }
-{
-    take_ref(Cursor { at }, s, w).value.is_result(counts)
-}
-
-// The twin of `steps_ok`; one function for both would take the width and the test as parameters, and be no plainer.
+// Whether each reference, from bit `at` on, may stand as a result. One function for this and `steps_ok` would take the width and the
+// test as parameters, and be no plainer.
 fn refs_ok(s: &[u8], w: usize, at: usize, count: usize, counts: Counts) -> bool
     requires { (at + ref_width w * count ≤ 8 * length s.now) × (at + ref_width w * count < 2 ^ 64) × (w ≤ 32) }
     ensures { Says ((e : _) → e < count → RefGood w s.now counts.vars counts.steps (at + ref_width w * e)) result }
 {
     let ref_width = 2 + w;
-    (0..count).all(|e| ref_ok(s, w, at + ref_width * e, counts))
-}
-
-// Where the last field of a reply with this header ends.
-fn end_of(h: Head) -> usize
-    requires { (h.entries ≤ 32) × (h.ins < 32) × (h.steps < 8192) }
-    ensures { result ≡ end_of 12 h.ins h.steps h.entries }
-{
-    HEAD_TO + 5 * h.ins + 30 * h.steps + 28 * h.entries
+    (0..count).all(|e| {
+        let here = at + ref_width * e;
+        take_ref(Cursor { at: here }, s, w).value.is_result(counts)
+    })
 }
 
 // Whether this many bytes are what the header says, and its numbers are allowed.
@@ -148,7 +130,7 @@ fn sizes_ok(h: Head, size: usize) -> bool
     if h.number == 0 || h.steps > MOST_STEPS {
         return false;
     }
-    (end_of(h) + 7) / 8 == size
+    h.end().div_ceil(8) == size
 }
 
 // Whether bytes with this header are a reply.
@@ -160,14 +142,14 @@ fn is_reply(bytes: &[u8], h: Head) -> bool
         vars: 2 * h.entries * h.ins,
         steps: h.steps,
     };
-    let steps_at = HEAD_TO + 5 * h.ins;
-    let results_at = steps_at + 30 * h.steps;
-    let end = end_of(h);
+    let steps_at = h.steps_at();
+    let results_at = h.results_at();
+    let end = h.end();
     let size = bytes.len();
     sizes_ok(h, size)
         && ins_ok(bytes, h.fragment, h.ins)
-        && steps_ok(bytes, 12, steps_at, h.steps, counts.vars)
-        && refs_ok(bytes, 12, results_at, 2 * h.entries, counts)
+        && steps_ok(bytes, WIDTH, steps_at, h.steps, counts.vars)
+        && refs_ok(bytes, WIDTH, results_at, 2 * h.entries, counts)
         && Cursor { at: end }.blank(bytes, 8 * size)
 }
 

@@ -8,13 +8,14 @@ use mathlib.Core.Logic.{◌⊎◌, inl, inr}
 use mathlib.Core.Option.{some}
 use mathlib.Core.List.{List, [], ◌∷◌}
 use lib.ListN.{get_or, take, drop, replicate}
+use Rattle.std.proofs.lemmas.Bool.{lt-ltb, le-ltb}
 use Rattle.meaning.specs.Bytes.{Bytes}
 use Rattle.meaning.specs.Algebra.{bool}
 use Rattle.meaning.specs.Formula.{Ref, ref_value, step_values, value}
 use Rattle.meaning.specs.Reply.{Reply}
 use Rattle.meaning.specs.Run.{upd}
 use Rattle.meaning.specs.Solve.{Values, assign, here_of, lower_of, solved, solve, no_values}
-use Rattle.meaning.proofs.Numbers.{ltb_true, ltb_false, upd_same, upd_other}
+use Rattle.meaning.proofs.Numbers.{upd_same, upd_other}
 use Rattle.reply.specs.inner.Decode.{ref_at, entries_of, ins_of, steps_of, decoded}
 use Rattle.reply.specs.inner.Checked.{Checked, vars_of}
 use Rattle.reply.proofs.Round.{is_the, checked_of}
@@ -22,7 +23,8 @@ use Rattle.whole.specs.Whole.{Heard, start_of, size_of, part_of, Opened}
 use Rattle.solving.specs.inner.Values.{truth_in, values_in, variable_of, Put, Agree, kept, answer_of}
 use Rattle.whole.specs.declared.Question.{Question}
 use Rattle.whole.proofs.Pieces.{part_is, own_reply}
-use Rattle.solving.proofs.Replies.{small, none_at, here_is, lower_is}
+use Rattle.reply.proofs.Judge.{unmarked}
+use Rattle.solving.proofs.Replies.{small, here_is, lower_is}
 
 -- ---- values that agree give the same answers
 module _ (n : ℕ) (S T : Values Bool) (h : Agree n S T) where
@@ -32,9 +34,9 @@ module _ (n : ℕ) (S T : Values Bool) (h : Agree n S T) where
   assign_same (g ∷ l) x = go (assign_same l (x - 2 * n)) (dec_lt x n) (dec_lt x (2 * n))
     where
       go : assign bool n l S (x - 2 * n) ≡ assign bool n l T (x - 2 * n) → Dec (x < n) → Dec (x < 2 * n) → assign bool n (g ∷ l) S x ≡ assign bool n (g ∷ l) T x
-      go ih (yes a) b = rw (ltb_true x n a) (h.v_same g x a)
-      go ih (no a) (yes b) = rw (ltb_false x n (omega arith), ltb_true x (2 * n) b) (h.d_same g (x - n) (omega arith))
-      go ih (no a) (no b) = rw (ltb_false x n (omega arith), ltb_false x (2 * n) (omega arith)) ih
+      go ih (yes a) b = rw (lt-ltb x n a) (h.v_same g x a)
+      go ih (no a) (yes b) = rw (le-ltb x n (omega arith), lt-ltb x (2 * n) b) (h.d_same g (x - n) (omega arith))
+      go ih (no a) (no b) = rw (le-ltb x n (omega arith), le-ltb x (2 * n) (omega arith)) ih
 
   assigns_same : (l : List ℕ) → assign bool n l S ≡ assign bool n l T
   assigns_same l = fun_ext (assign_same l)
@@ -124,7 +126,7 @@ module _ (q : Question) (store : Bytes) where
   pub left_start : (n : ℕ) → Left q store q.parts (replicate n false)
   left_start n =
       solve_agree q.entries (λ f. decoded 12 (part_of q store f)) q.parts (values_in q.entries (replicate n false)) (no_values bool q.entries)
-      (record { v_same = λ g e l. none_at n (64 * g + e); d_same = λ g e l. none_at n (64 * g + (q.entries + e)) })
+      (record { v_same = λ g e l. unmarked n (64 * g + e); d_same = λ g e l. unmarked n (64 * g + (q.entries + e)) })
 
   left_suc : (f : ℕ) (rows rows' : List Bool) → Left q store (suc f) rows → Agree q.entries (values_in q.entries rows') (solved bool q.entries (kept q store f) f (values_in q.entries rows)) → Left q store f rows'
   unfolding solve

@@ -4,11 +4,11 @@ use Prim.Native.Nat.{ℕ, zero, suc, ◌+◌, ◌-◌, ◌*◌, ◌/◌, ◌%◌
 use native.Mathlib.Nat.{div-add-mod', div-lt_iff_lt-mul, mod-lt, mul_comm, mul-le-mul, le_refl}
 use native.Mathlib.Decide.{dec_lt, ℕ_discrete}
 use native.Mathlib.Omega.{arith}
-use mathlib.Core.Path.{◌≡◌, refl, sym, ap, ◌∙◌, subst}
+use mathlib.Core.Path.{◌≡◌, sym, ap, ◌∙◌, subst}
 use mathlib.Core.Bool.{Bool, false}
 use mathlib.Core.Logic.{◌⊎◌, inl, inr, ⊎_elim}
 use mathlib.Core.List.{List, [], ◌++◌}
-use lib.ListN.{length, set, take, drop, replicate, get_or-append, length-drop, length-set}
+use lib.ListN.{length, set, take, drop, get_or-append, length-drop, length-set}
 use lib.Seq.{length-take-le, get_or-append-add, get_or-append_right, get_or-drop, get_or-set_same, get_or-set_other, get_or-take}
 use Rattle.bits.proofs.Laws.{field_lt}
 use Rattle.meaning.specs.Algebra.{bool}
@@ -58,9 +58,6 @@ few_vars s h =
     mul-le-mul a b
 
 -- ---- truth values put into a list, one after another
-pub put_none : (l : List Bool) (base : ℕ) (f : ℕ → Bool) → Put l base 0 f l
-put_none l base f = record { here = λ e h. absurd (omega arith); other = λ i h. refl; long = refl }
-
 pub put_more : (l out : List Bool) (base e : ℕ) (f : ℕ → Bool) (x : Bool) → base + e < length out → x ≡ f e → Put l base e f out → Put l base (e + 1) f (set out (base + e) x)
 put_more l out base e f x b q P = record {
   here = λ j h. up_to_suc (λ j. truth_in (set out (base + e) x) (base + j) ≡ f j) e (λ k a. get_or-set_other out (base + e) (base + k) x false (omega arith) ∙ P.here k a) (get_or-set_same out (base + e) x false b ∙ q) j (omega arith);
@@ -192,11 +189,6 @@ pub operands_at : (s : List ℕ) → Checked 12 s → (i : ℕ) → i < steps_of
 operands_at s h i l = (step_in 12 (vars_of s) i s (60 + 5 * ins_of s + 30 * i) (omega (arith, (small s h).steps_room)) (h.steps_good i l)).1
 
 -- ---- the whole reply
-pub none_at : (n j : ℕ) → truth_in (replicate n false) j ≡ false
-none_at zero j = refl
-none_at (suc n) zero = refl
-none_at (suc n) (suc j) = none_at n j
-
 -- V and D are one run of references
 pub results_good : (s : List ℕ) → Checked 12 s → (e : ℕ) → e < 2 * entries_of s → RefGood 12 s (vars_of s) (steps_of s) (60 + 5 * ins_of s + 30 * steps_of s + 14 * e)
 results_good s h e l = go (dec_lt e (entries_of s))

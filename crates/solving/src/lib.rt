@@ -8,29 +8,35 @@ ghost use Rattle.meaning.specs.Says.{Says};
 ghost use Rattle.meaning.specs.Formula.{ref_value, step_value, step_values};
 ghost use Rattle.meaning.specs.Solve.{solved};
 ghost use Rattle.std.proofs.Math.Option.{some};
+ghost use Rattle.std.proofs.Props.{props};
 ghost use Rattle.reply.specs.inner.Decode.{ref_at, steps_to, entries_of, ins_of, steps_of, decoded};
 ghost use Rattle.reply.specs.inner.Checked.{Checked, RefOk, StepOk, vars_of};
 ghost use Rattle.reply.specs.inner.Fields.{kind_code, op_code, HeadIs};
 ghost use Rattle.whole.specs.Whole.{Opened};
+ghost use Rattle.solving.specs.inner.Sound.{ref_prop, step_prop};
 ghost use Rattle.solving.specs.inner.Values.{ref_of, step_of, truth_in, values_in, variable_of, Put, Agree, AllHeard, answer_of};
 
 use bits::Cursor;
 use reply::{
-    HEAD_TO, Head, Op, RefKind, Reference, StepField, header, take_in, take_ref, take_step,
+    Head, Op, REF_WIDTH, RefKind, Reference, STEP_WIDTH, StepField, WIDTH, header, take_in,
+    take_ref, take_step,
 };
 use whole::Question;
 
 // The places of a fragment's row.
 const ROW: usize = 64;
 
-// The bits of a stand-in, of a reference and of a step in a reply.
-const IN_WIDTH: usize = 5;
+// A reply that passed the check, and its header.
+#[derive(Clone, Copy)]
+struct Reply<'a> {
+    bytes: &'a [u8],
+    head: Head,
+    ghost sound: { Checked 12 bytes.now } by { Prim.hlevel (props, ref_prop, step_prop) },
+    ghost read: { HeadIs bytes.now head },
+}
 
-const REF_WIDTH: usize = 14;
-
-const STEP_WIDTH: usize = 30;
-
-// What is known while solving: the rows, and of the reply in hand the variables and the values of the steps.
+// What is known while solving: the rows, and of the reply in hand the variables and the values of the steps. The rows lie one after
+// another, as the variables do, so that a row is copied in one piece; rows in an array of arrays would be no plainer.
 #[derive(Drop)]
 struct Known {
     rows: [bool; 2048],
@@ -68,62 +74,61 @@ impl Known {
         }
     }
 
-    // The variables of the reply s: for each stand-in the row of its fragment.
+    // The variables of a reply: for each stand-in the row of its fragment.
     #[tactic(auto, using(crate::proofs::Replies::small))]
-    fn gather(&mut self, s: &[u8], h: Head)
-        requires { Checked 12 s.now × HeadIs s.now h }
+    fn gather(&mut self, r: &Reply)
         ensures rows { self.new.rows ≡ self.old.rows }
-        ensures vars { (x : _) → x < vars_of s.now → truth_in self.new.vars x ≡ variable_of s.now self.old.rows x }
+        ensures vars { (x : _) → x < vars_of r.now.bytes.now → truth_in self.new.vars x ≡ variable_of r.now.bytes.now self.old.rows x }
     {
-        let n = 2 * h.entries;
-        for p in 0..h.ins {
+        let n = 2 * r.head.entries;
+        for p in 0..r.head.ins {
             // A slice first: no proof follows a part of an array behind a reference yet.
             let rows: &[bool] = &self.rows;
-            let from = ROW * take_in(s, p);
+            let from = ROW * take_in(r.bytes, p);
             let to = n * p;
             self.vars[to..to + n].copy_from_slice(&rows[from..from + n]);
         }
     }
 
-    // The values of the steps of the reply s, in order.
+    // The values of a reply's steps, in order.
     #[tactic(auto, using(crate::proofs::Replies::small))]
-    fn step_values(&mut self, s: &[u8], h: Head)
-        requires { Checked 12 s.now × HeadIs s.now h }
+    fn step_values(&mut self, r: &Reply)
         ensures rows { self.new.rows ≡ self.old.rows }
         ensures vars { self.new.vars ≡ self.old.vars }
-        ensures values { take (steps_of s.now) self.new.values ≡ step_values bool (truth_in self.old.vars) [] (decoded 12 s.now).steps }
+        ensures values { take (steps_of r.now.bytes.now) self.new.values ≡ step_values bool (truth_in self.old.vars) [] (decoded 12 r.now.bytes.now).steps }
     {
-        let at = HEAD_TO + IN_WIDTH * h.ins;
-        for i in 0..h.steps {
+        let at = r.head.steps_at();
+        for i in 0..r.head.steps {
             let here = at + STEP_WIDTH * i;
-            let t = take_step(Cursor { at: here }, s, 12);
+            let t = take_step(Cursor { at: here }, r.bytes, WIDTH);
             self.values[i] = self.step_value(t);
         }
     }
 
-    // The row of fragment f: the values of V and D of its reply s.
+    // The row of fragment f: the values of V and D of its reply.
     #[tactic(auto, using(crate::proofs::Replies::small))]
-    fn results(&mut self, s: &[u8], h: Head, f: usize)
-        requires { Checked 12 s.now × HeadIs s.now h × (f < 32) }
-        ensures { Put self.old.rows (64 * f) (2 * entries_of s.now) (λ e. ref_value bool (truth_in self.old.vars) self.old.values (ref_at 12 s.now (steps_to 12 (ins_of s.now) (steps_of s.now) + 14 * e))) self.new.rows }
+    fn results(&mut self, r: &Reply, f: usize)
+        requires { f < 32 }
+        ensures { Put self.old.rows (64 * f) (2 * entries_of r.now.bytes.now) (λ e. ref_value bool (truth_in self.old.vars) self.old.values (ref_at 12 r.now.bytes.now (steps_to 12 (ins_of r.now.bytes.now) (steps_of r.now.bytes.now) + 14 * e))) self.new.rows }
     {
-        let at = HEAD_TO + IN_WIDTH * h.ins + STEP_WIDTH * h.steps;
-        for e in 0..2 * h.entries {
+        let at = r.head.results_at();
+        for e in 0..2 * r.head.entries {
             let here = at + REF_WIDTH * e;
-            let r = take_ref(Cursor { at: here }, s, 12);
-            self.rows[ROW * f + e] = self.value(r.value);
+            let x = take_ref(Cursor { at: here }, r.bytes, WIDTH);
+            self.rows[ROW * f + e] = self.value(x.value);
         }
     }
 
-    // Fragment f solved by its reply s: its row, from those of the fragments that it stands for.
-    fn solve(&mut self, s: &[u8], f: usize)
-        requires { Checked 12 s.now × (f < 32) }
-        ensures { Agree (entries_of s.now) (values_in (entries_of s.now) self.new.rows) (solved bool (entries_of s.now) (some (decoded 12 s.now)) f (values_in (entries_of s.now) self.old.rows)) }
+    // Fragment f solved by the bytes of its reply: its row, from those of the fragments that it stands for.
+    fn solve(&mut self, bytes: &[u8], f: usize)
+        requires { Checked 12 bytes.now × (f < 32) }
+        ensures { Agree (entries_of bytes.now) (values_in (entries_of bytes.now) self.new.rows) (solved bool (entries_of bytes.now) (some (decoded 12 bytes.now)) f (values_in (entries_of bytes.now) self.old.rows)) }
     {
-        let h = header(s);
-        self.gather(s, h);
-        self.step_values(s, h);
-        self.results(s, h, f);
+        let head = header(bytes);
+        let r = Reply { bytes, head };
+        self.gather(&r);
+        self.step_values(&r);
+        self.results(&r, f);
     }
 }
 

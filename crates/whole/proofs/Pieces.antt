@@ -15,6 +15,7 @@ use Rattle.meaning.specs.Reply.{Reply}
 use Rattle.meaning.specs.Register.{children_of}
 use Rattle.meaning.proofs.Says.{says_iff, says_at}
 use Rattle.reply.specs.Read.{Is, Checks}
+use Rattle.reply.specs.inner.Checked.{Checked}
 use Rattle.reply.specs.inner.Decode.{in_at}
 use Rattle.reply.specs.inner.Fields.{HeadIs}
 use Rattle.reply.specs.declared.Head.{Head}
@@ -29,13 +30,12 @@ use Rattle.whole.specs.declared.Unfit.TheVariants.{NotAReply, OtherQuestion, Mis
 use Rattle.whole.proofs.Tiles.{tested_tiled, tiled_tested}
 use Rattle.whole.proofs.Children.{mem_place, place_mem, child_has, has_child}
 
--- the same answer under another name
 -- ---- a reply
 -- bytes are one reply only
 pub one_of : (s : Bytes) (r t : Reply) → Is 12 s r → Is 12 s t → r ≡ t
 one_of s r t a b = is_the 12 s r a ∙ sym (is_the 12 s t b)
 
-pub passed_check : {s : Bytes} {c : ℕ} → Checks s c → c ≡ 0 → (r : Reply) × Is 12 s r
+passed_check : {s : Bytes} {c : ℕ} → Checks s c → c ≡ 0 → (r : Reply) × Is 12 s r
 passed_check (refused h) e = absurd (omega arith)
 passed_check (passed t granted) e = t
 
@@ -61,9 +61,6 @@ module _ (q : Question) (s : Bytes) (r : Reply) (i : Is 12 s r) (h : Head) (H : 
 
   ins_are : h.ins ≡ length r.ins
   ins_are = H.ins_is ∙ f.ins_are
-
-  pub wrong_number : h.number ≢ q.number → Judged q s 14
-  wrong_number n = passed (r, i) (refused (λ a. n (number_is ∙ a r i)))
 
   numbered : h.number ≡ q.number → (t : Reply) → Is 12 s t → t.number ≡ q.number
   numbered e t k = ap (λ (z : Reply). z.number) (one_reply t k) ∙ sym number_is ∙ e
@@ -98,11 +95,24 @@ module _ (q : Question) (s : Bytes) (r : Reply) (i : Is 12 s r) (h : Head) (H : 
           let b : w.at < length r.ins = omega (arith, ins_are, w.less) in
           subst (λ k. Memᴰ k r.ins) (sym (f.in_is w.at b) ∙ w.is) (place_mem r.ins w.at b)
 
-  pub misfit : h.number ≡ q.number → (Fitting q s h → ⊥) → Judged q s 15
-  misfit e n = passed (r, i) (passed (numbered e) (refused (λ a. n (shaped_fitting (a r i)))))
+-- the judgement of bytes that passed the check
+module _ {s : Bytes} {c : ℕ} (k : Checks s c) (z : c ≡ 0) where
+  abbrev read : (r : Reply) × Is 12 s r
+  read = passed_check k z
 
-  pub well : h.number ≡ q.number → Fitting q s h → Judged q s 0
-  well e p = passed (r, i) (passed (numbered e) (passed (λ t k. subst (Shaped q) (sym (one_reply t k)) (fitting_shaped p)) granted))
+  pub checked : Checked 12 s
+  checked = checked_of 12 s read.0 read.1
+
+  module _ (q : Question) {h : Head} (H : HeadIs s h) where
+    pub wrong_number : h.number ≢ q.number → Judged q s 14
+    wrong_number n = passed read (refused (λ a. n (number_is q s read.0 read.1 h H ∙ a read.0 read.1)))
+
+    pub misfit : h.number ≡ q.number → (Fitting q s h → ⊥) → Judged q s 15
+    misfit e n = passed read (passed (numbered q s read.0 read.1 h H e) (refused (λ a. n (shaped_fitting q s read.0 read.1 h H (a read.0 read.1)))))
+
+    pub well : h.number ≡ q.number → Fitting q s h → Judged q s 0
+    well e p = passed read (passed (numbered q s read.0 read.1 h H e)
+        (passed (λ t i. subst (Shaped q) (one_of s read.0 t read.1 i) (fitting_shaped q s read.0 read.1 h H p)) granted))
 
 -- the bytes s are the reply r, free of 13, 14 and 15
 pub record Free (q : Question) (s : Bytes) (r : Reply) : Type 0 where
@@ -182,17 +192,24 @@ module _ (q : Question) (used : ℕ) (store : Bytes) where
   laid_says r t o = says_iff (λ k. record { fits = r; replies = k; tiled = tested_tiled (Heard q) (start_of q) (size_of q) used (some_size k) t }) (λ l. l.replies) o
 
 -- ---- whole
+not_open : {n : ℕ} → (n ≢ 0 → ⊥) → n ≡ 0
+not_open {n} h = go (ℕ_discrete n 0)
+  where
+    go : Dec (n ≡ 0) → n ≡ 0
+    go (yes e) = e
+    go (no m) = absurd (h m)
+
 module _ (d : Record) (store : Bytes) where
-  pub whole_fresh : {b : Bool} → d.question.number ≡ 0 → d.last ≡ 0 → d.used ≡ 0 → Says ((f : ℕ) → Heard d.question f → ⊥) b → Says (Whole d store) b
-  whole_fresh e l u q = says_iff (λ h. closed e l u h) back q
+  pub whole_fresh : {b : Bool} → (d.question.number ≢ 0 → ⊥) → d.last ≡ 0 → d.used ≡ 0 → Says ((f : ℕ) → Heard d.question f → ⊥) b → Says (Whole d store) b
+  whole_fresh e l u q = says_iff (λ h. closed (not_open e) l u h) back q
     where
       back : Whole d store → (f : ℕ) → Heard d.question f → ⊥
       back (closed z x y f) = f
-      back (opened z o) = absurd (z e)
+      back (opened z o) = absurd (e z)
 
-  pub not_fresh : d.question.number ≡ 0 → (d.last ≡ 0 → d.used ≡ 0 → ⊥) → Whole d store → ⊥
+  pub not_fresh : (d.question.number ≢ 0 → ⊥) → (d.last ≡ 0 → d.used ≡ 0 → ⊥) → Whole d store → ⊥
   not_fresh e n (closed z x y f) = n x y
-  not_fresh e n (opened z o) = z e
+  not_fresh e n (opened z o) = e z
 
   pub whole_open : {b : Bool} → d.question.number ≢ 0 → Rules d.question → Says (Laid d.question d.used store) b → Says (Whole d store) b
   whole_open n r q = says_iff (λ l. opened n (record { rules = r; laid = l })) back q
@@ -200,10 +217,6 @@ module _ (d : Record) (store : Bytes) where
       back : Whole d store → Laid d.question d.used store
       back (closed z x y f) = absurd (n z)
       back (opened z o) = o.laid
-
-  pub whole_rules : d.question.number ≢ 0 → (Rules d.question → ⊥) → Whole d store → ⊥
-  whole_rules n r (closed z x y f) = n z
-  whole_rules n r (opened z o) = r o.rules
 
   pub was_open : Whole d store → d.question.number ≢ 0 → Opened d.question d.used store
   was_open (closed z x y f) n = absurd (n z)

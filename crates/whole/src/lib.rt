@@ -1,14 +1,15 @@
-// The desk's record, and whether record and store are whole: layout rules, each reply free of 13 to 15,
+// The desk's record, and whether record and store are whole: layout rules, each reply heard free of every `Unfit`,
 // and the store laid with no gap and no overlap.
 #![tactic(auto)]
 
-ghost use Rattle.std.specs.Prelude.{◌≡◌, ◌+◌, ◌*◌, ◌^◌, ◌≤◌, ◌<◌, length, IfOk};
+ghost use Rattle.std.specs.Prelude.{◌≡◌, ◌≢◌, ◌+◌, ◌*◌, ◌^◌, ◌≤◌, ◌<◌, length, IfOk};
 ghost use Rattle.meaning.specs.Says.{Says};
 ghost use Rattle.meaning.specs.Register.{Layout};
 ghost use Rattle.reply.specs.inner.Decode.{ins_to};
 ghost use Rattle.reply.specs.inner.Fields.{HeadIs};
 ghost use Rattle.whole.specs.Whole.{OpenRules, layout_of, Rules, Heard, start_of, size_of, part_of, Own, Laid, Whole};
-ghost use Rattle.whole.specs.inner.Steps.{StandsFor, ChildOf, OnlyChildren, AllChildren, Fitting, Judged, number_of, judge_number, Starts, Apart, TileOk, Tested};
+ghost use Rattle.whole.specs.declared.Unfit.TheVariants as Unfits;
+ghost use Rattle.whole.specs.inner.Steps.{StandsFor, ChildOf, OnlyChildren, AllChildren, Fitting, Judged, judge_number, Starts, Apart, TileOk, Tested};
 
 use reply::judging::{NotAReply, reply_check};
 use reply::{Head, header, take_in};
@@ -22,7 +23,7 @@ pub enum Unfit {
 }
 
 impl From<NotAReply> for Unfit {
-    ghost from_gives = { λ _ unfit. number_of unfit ≡ 13 };
+    ghost from_gives = { λ _ unfit. unfit ≡ Unfits.NotAReply };
 
     fn from(_refusal: NotAReply) -> Unfit {
         Unfit::NotAReply
@@ -34,7 +35,7 @@ impl From<NotAReply> for Unfit {
 // It is laid out for C: so a number stands for none and for no, and arrays lie side by side.
 // C may fill it with anything: so what a test needs of it is a clause, and no invariant of the type.
 #[repr(C)]
-#[derive(Clone, Copy)]
+#[derive(Clone, Copy, Default)]
 pub struct Question {
     pub number: u64,
     pub entries: usize,
@@ -45,9 +46,9 @@ pub struct Question {
     pub size: [usize; 32],
 }
 
-// The last number opened, how many bytes of the store are used, and the question.
+// The last number opened, how many bytes of the store are used, and the question; laid out for C, as the question is.
 #[repr(C)]
-#[derive(Clone, Copy)]
+#[derive(Clone, Copy, Default)]
 pub struct Record {
     pub last: u64,
     pub used: usize,
@@ -60,9 +61,10 @@ pub fn layout_ok(layout: &[u8]) -> bool
     ensures { Says (Layout layout.now) result }
 {
     let parts = layout.len();
-    if parts < 1 || 32 < parts || layout[0] != 255 {
+    if !(1..=32).contains(&parts) || layout[0] != 255 {
         return false;
     }
+    // by number, since the parent is compared with it: plainer than an enumeration without its first
     (1..parts).all(|k| usize::from(layout[k]) < k)
 }
 
@@ -70,13 +72,10 @@ pub fn layout_ok(layout: &[u8]) -> bool
 pub fn rules_ok(layout: &[u8], entries: usize) -> bool
     ensures { Says (OpenRules layout.now entries) result }
 {
-    if entries < 1 || 32 < entries {
-        return false;
-    }
-    layout_ok(layout)
+    (1..=32).contains(&entries) && layout_ok(layout)
 }
 
-// ---- a reply: 13, 14, 15
+// ---- a reply: no reply at all, another question's, or a misfit
 
 // The bytes of a reply, and its header.
 #[derive(Clone, Copy)]
@@ -125,6 +124,13 @@ impl Received<'_> {
 }
 
 impl Question {
+    // Whether a question is open.
+    pub fn is_open(&self) -> bool
+        ensures { Says (self.now.number ≢ 0) result }
+    {
+        self.number != 0
+    }
+
     // Whether the reply is of a fragment of this layout, has its entry count, and the fragment's children for stand-ins.
     fn fits(&self, reply: &Received) -> bool
         requires { self.now.parts ≤ 32 }
@@ -207,7 +213,7 @@ impl Question {
         (0..32).all(|f| self.tile_ok(used, f)) && (used == 0 || self.starts(0))
     }
 
-    // If f is heard, whether the bytes recorded for it are its reply, free of 13 to 15.
+    // If f is heard, whether the bytes recorded for it are its reply, and nothing of `Unfit` applies to them.
     fn reply_ok(&self, store: &[u8], f: usize) -> bool
         requires parts { self.now.parts ≤ 32 }
         requires few { f < 32 }
@@ -250,7 +256,7 @@ impl Question {
     }
 }
 
-// The reply's header, or the first of 13, 14, 15 that applies to the bytes s.
+// The reply's header, or the first of `Unfit` that applies to the bytes s.
 pub fn judge(q: Question, s: &[u8]) -> Result<Head, Unfit>
     requires { q.parts ≤ 32 }
     ensures number { Judged q s.now (judge_number result) }
@@ -271,7 +277,7 @@ pub fn whole(desk: Record, store: &[u8]) -> bool
     ensures { Says (Whole desk store.now) result }
 {
     let q = desk.question;
-    if q.number != 0 {
+    if q.is_open() {
         return q.rules() && q.laid(desk.used, store);
     }
     if desk.last != 0 || desk.used != 0 {

@@ -3,7 +3,7 @@ use Prim.Native.Nat.{ℕ, ◌+◌, ◌*◌, ◌/◌, ◌≤◌, ◌<◌}
 use native.Mathlib.Nat.{zero-mul}
 use native.Mathlib.Omega.{arith}
 use mathlib.Core.Path.{◌≡◌, refl, sym, ap, ◌∙◌}
-use mathlib.Core.List.{List, [], ◌∷◌, ◌++◌}
+use mathlib.Core.List.{List, ◌++◌}
 use lib.ListN.{length, get_or, drop, length-append, get_or-append, length-drop}
 use Rattle.std.proofs.lemmas.Nat.{div-mul-add}
 use Rattle.std.proofs.lemmas.List.{get_or-drop, drop-drop, drop_at}
@@ -32,10 +32,6 @@ chunk_of w k s rest chunk more h l e n =
       inside = inside;
       next = record { is = sym (drop_at chunk more w n) ∙ ap (drop w) (sym whole) ∙ drop-drop w (k * w) s ∙ ap (λ z. drop z s) (sym there); inside = omega (arith, there) };
     }
-
--- one more has come
-pub one_more : {A : Type 0} (l : List A) (x : A) → length (l ++ (x ∷ [])) ≡ length l + 1
-one_more l x = length-append l (x ∷ [])
 
 -- less is left than a chunk
 pub left_end : (w k : ℕ) (s rest : List ℕ) → Left w k s rest → length rest < w → k ≡ length s / w

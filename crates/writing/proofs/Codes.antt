@@ -6,13 +6,13 @@ use native.Mathlib.Omega.{arith}
 use mathlib.Core.Path.{◌≡◌, refl, sym, ap, ◌∙◌, subst}
 use mathlib.Core.Bool.{Bool, true, false, cond}
 use mathlib.Core.List.{List, [], ◌∷◌, ◌++◌, append-nil}
-use lib.ListN.{length, get_or, take, drop, length-drop, length-append}
+use lib.ListN.{length, get_or, length-append}
 use lib.Dec.{eqb}
 use borrow.Author.Tests.{eq-eqb, ne_eqb}
 use mir.Val.{bool_byte}
-use Rattle.std.proofs.lemmas.List.{get_or-take, get_or-drop, length-take-le}
 use Rattle.bits.specs.Bits.{digits}
-use Rattle.meaning.specs.Formula.{Ref, Step}
+use Rattle.meaning.specs.Says.{Says, aye, nay}
+use Rattle.meaning.specs.Formula.{Ref}
 use Rattle.meaning.specs.Fragment.{num, row_count, rows_of}
 use Rattle.meaning.specs.Reply.{stand_ins}
 use Rattle.reply.specs.Write.{ref_bits, step_bits, each}
@@ -21,7 +21,7 @@ use Rattle.reply.specs.WellFormed.{Result}
 use Rattle.writing.specs.inner.Promise.{CodeRef}
 use Rattle.writing.specs.inner.Codes.{code, ref_of, step_of, refs_at, steps_at, RefCode, StepCode, bare, row_in, row_ins}
 use Rattle.writing.proofs.Chunks.{Chunk}
-use Rattle.reply.proofs.Lists.{each_none, each_more, tab_same}
+use Rattle.reply.proofs.Lists.{each_none, each_more}
 
 -- ---- a reference's code, and a step's
 kinds : (w k x : ℕ) → k < 4 → (k < 2 → x ≡ 0) → digits 2 k ++ digits w x ≡ ref_bits w (ref_from k x)
@@ -103,46 +103,6 @@ code_here w k work chunk more q h =
     let right = q.at 2 (omega arith) in
     record { op = rw op h.op; left = rw left h.left; right = rw right h.right; single = rw (op, right) h.single }
 
--- a part of the memory, m numbers from a place on, holds what the memory holds there
-module _ (work : List ℕ) (from m : ℕ) where
-  abbrev pub part : List ℕ
-  part = take (from + m - from) (drop from work)
-
-  part_at : (i : ℕ) → i < m → get_or part i 0 ≡ get_or work (from + i) 0
-  part_at i h = get_or-take (from + m - from) (drop from work) i 0 (omega arith) ∙ get_or-drop from work i 0
-
-  pub part_long : from + m ≤ length work → length part ≡ m
-  part_long h = let e : from + m - from ≡ m = omega arith in rw e (length-take-le m (drop from work) (omega (arith, length-drop from work)))
-
-  pub refs_part : from + m ≤ length work → refs_at part 0 (length part) ≡ refs_at work from m
-  unfolding refs_at
-  refs_part h = rw (part_long h) (tab_same m _ _ Ref.low (λ i g. rw zero-add (ap ref_of (part_at i g))))
-
-module _ (work : List ℕ) (from n i : ℕ) (h : i < n) where
-  op_part : get_or (part work from (3 * n)) (3 * i) 0 ≡ get_or work (from + 3 * i) 0
-  op_part = part_at work from (3 * n) (3 * i) (omega arith)
-
-  ref_of_part : (j : ℕ) → j < 3 → get_or (part work from (3 * n)) (3 * i + j) 0 ≡ get_or work (from + 3 * i + j) 0
-  ref_of_part j l = let there : from + (3 * i + j) ≡ from + 3 * i + j = omega arith in part_at work from (3 * n) (3 * i + j) (omega arith) ∙ ap (λ p. get_or work p 0) there
-
-module _ (work : List ℕ) (from n : ℕ) (h : from + 3 * n ≤ length work) where
-  pub steps_long : length (part work from (3 * n)) / 3 ≡ n
-  steps_long = omega (arith, part_long work from (3 * n) h)
-
-  pub steps_part : steps_at (part work from (3 * n)) 0 (length (part work from (3 * n)) / 3) ≡ steps_at work from n
-  unfolding steps_at step_of
-  steps_part = rw steps_long (tab_same n _ _ (Step.not Ref.low) (λ i g. rw (zero-add, op_part work from n i g, ref_of_part work from n i g 1 (omega arith), ref_of_part work from n i g 2 (omega arith)) refl))
-
-  pub step_part : (w : ℕ) → ((i : ℕ) → i < n → StepCode w work (from + 3 * i)) → (i : ℕ) → i < length (part work from (3 * n)) / 3 → StepCode w (part work from (3 * n)) (i * 3)
-  step_part w good i g =
-      let b : i < n = omega (arith, steps_long) in
-      let there : i * 3 ≡ 3 * i = omega arith in
-      let s = good i b in
-      let op = op_part work from n i b in
-      let left = ref_of_part work from n i b 1 (omega arith) in
-      let right = ref_of_part work from n i b 2 (omega arith) in
-      rw there (record { op = rw op s.op; left = rw left s.left; right = rw right s.right; single = rw (op, right) s.single })
-
 -- ---- the stand-ins of rows
 pub row_other : (kind x : ℕ) → (kind ≡ 1 → ⊥) → row_in kind x ≡ []
 unfolding row_in
@@ -201,19 +161,7 @@ module _ (rows : List ℕ) where
   unfolding row_ins
   ins_all = refl
 
--- a row has at most one, and so has each of the rows
-pub row_few : (kind x : ℕ) → length (row_in kind x) ≤ 1
-unfolding row_in
-row_few kind x = go (eqb kind 1)
-  where
-    go : (b : Bool) → length (cond b (x ∷ []) []) ≤ 1
-    go true = omega arith
-    go false = omega arith
-
-pub row_long : (kind x : ℕ) → bool_byte (eqb kind 1) ≡ length (row_in kind x)
-unfolding row_in
-row_long kind x = go (eqb kind 1)
-  where
-    go : (b : Bool) → bool_byte b ≡ length (cond b (x ∷ []) [])
-    go true = refl
-    go false = refl
+-- as many as the test of its kind says
+pub row_long : (kind x : ℕ) {b : Bool} → Says (kind ≡ 1) b → bool_byte b ≡ length (row_in kind x)
+row_long kind x (aye e) = rw (row_one kind x e) refl
+row_long kind x (nay n) = rw (row_other kind x n) refl

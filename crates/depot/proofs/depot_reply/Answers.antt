@@ -11,4 +11,4 @@ returns-in_err-check c =
 pub returns : goal.returns
 returns c =
     let a = c.args in
-    answered_late (call a.list a.text.now (lent a.rows.now a.pool.now) a.fragment a.number) a.work.now a.out.now _ c.reply-size.new.work c.in_ok-check.ensures c.reply-size.ensures c.reply-size.auto.work (c.fill.ensures.after (λ y e. e))
+    answered_late (call a.list a.text.now (lent a.rows.now a.pool.now) a.fragment a.number) a.work.now a.out.now _ c.reply-outcome.new.work c.in_ok-check.ensures c.reply-outcome.ensures c.reply-outcome.auto.work (c.fill.ensures.after (λ y e. e))

@@ -10,7 +10,7 @@ use Rattle.depot.specs.Number.{number_of, refusal_number, size_of}
 use Rattle.depot.specs.Answer.{Call, call, bytes, Late, buffer_after}
 
 abbrev pub call_of : C.Call → Call
-call_of c = call c.list c.text.now (lent c.rows.now c.pool.now) c.fragment c.number
+call_of c = call c.source.list c.source.text.now (lent c.source.fragment.rows.now c.source.fragment.pool.now) c.fragment c.number
 
 abbrev pub Asks : Call → Type 0
 Asks c = Keeps c.list c.text × (0 < c.number)

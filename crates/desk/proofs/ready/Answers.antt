@@ -6,8 +6,8 @@ use Rattle.desk.proofs.ready.Goals as goal
 pub returns-then-not-whole : goal.returns-then-not-whole
 returns-then-not-whole c = refused (says_false c.whole.ensures c.if-not-whole.true)
 
-pub returns-then-desk-eq0 : goal.returns-then-desk-eq0
-returns-then-desk-eq0 c = passed (says_true c.whole.ensures c.if-not-whole.false) (refused (λ n. n c.if-desk-eq0.true))
+pub returns-then-not-is_open : goal.returns-then-not-is_open
+returns-then-not-is_open c = passed (says_true c.whole.ensures c.if-not-whole.false) (refused (says_false c.is_open.ensures c.if-not-is_open.true))
 
 pub returns : goal.returns
-returns c = passed (says_true c.whole.ensures c.if-not-whole.false) (passed c.if-desk-eq0.false granted)
+returns c = passed (says_true c.whole.ensures c.if-not-whole.false) (passed (says_true c.is_open.ensures c.if-not-is_open.false) granted)

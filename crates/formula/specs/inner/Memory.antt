@@ -1,18 +1,16 @@
 -- THE STRUCTS OF THE CODE, as the equations of `Flat` have them.
-use Rattle.std.specs.Prelude.{ℕ, ◌+◌, ◌*◌, ◌<◌, ◌≤◌, ◌≡◌, length, get_or, Result, MatchResult}
+use Rattle.std.specs.Prelude.{ℕ, ◌+◌, ◌*◌, ◌<◌, ◌≤◌, ◌≡◌, length, Result, MatchResult}
 use Rattle.meaning.specs.Fragment.{Fragment, Sound, row_count}
-use Rattle.question.specs.declared.List as L
 use Rattle.question.specs.declared.kind.Kind.{Kind}
 use Rattle.question.specs.declared.kind.Kind.TheVariants.{Itself, Label, Text, Child, At, Below}
 use Rattle.question.specs.declared.kind.Kind.TheVariants as Kinds
-use Rattle.question.specs.inner.Kind.{code}
 use Rattle.question.specs.Listed.{Keeps}
 use Rattle.fragment.specs.Lent.{lent}
-use Rattle.formula.specs.declared.Entry as E
 use Rattle.formula.specs.declared.Source.{Source}
+use Rattle.formula.specs.declared.Layout.{Layout}
 use Rattle.formula.specs.declared.Memory.{Memory}
-use Rattle.formula.specs.declared.Op.{Op}
-use Rattle.formula.specs.declared.Op.TheVariants.{And, Or, Not}
+use Rattle.reply.specs.declared.Op.{Op}
+use Rattle.reply.specs.declared.Op.TheVariants.{And, Or, Not}
 use Rattle.formula.specs.declared.TooMany.{TooMany}
 use Rattle.formula.specs.inner.Flat.{St, st, Got, got}
 
@@ -26,11 +24,12 @@ op_number Not = 2
 abbrev pub fragment_of : Source → Fragment
 fragment_of s = lent s.fragment.rows.now s.fragment.pool.now
 
--- entry e of the list
-pub record IsEntry (l : L.List) (e : ℕ) (x : E.Entry) : Type 0 where
-  pub kind : code x.kind ≡ get_or l.kinds e 0
-  pub i : x.i ≡ get_or l.left e 0
-  pub j : x.j ≡ get_or l.right e 0
+-- where the parts of the memory begin, and how long it has to be
+pub record LaidOut (cells : ℕ) (l : Layout) : Type 0 where
+  pub cells_is : l.cells ≡ cells
+  pub d : l.d ≡ 2 * cells
+  pub steps : l.steps ≡ 4 * cells
+  pub need : l.need ≡ 4 * cells + 12288
 
 -- each entry that an operand numbers lies before it
 abbrev pub Operands : ℕ → Kind → ℕ → ℕ → Type 0
@@ -49,11 +48,11 @@ pub record Ruled (s : Source) (m : Memory) : Type 0 where
   pub number : ℕ
   pub sound : Sound number (fragment_of s)
   pub keeps : Keeps s.list s.text.now
-  pub cells : m.size ≡ row_count (fragment_of s) * s.list.count
+  pub cells : m.cells ≡ row_count (fragment_of s) * s.list.count
 
 -- room for every step
 pub record Room (m : Memory) : Type 0 where
-  pub room : 4 * m.size + 12288 ≤ length m.work.now
+  pub room : 4 * m.cells + 12288 ≤ length m.work.now
   pub count : m.steps ≤ 4096
 
 abbrev pub state : Memory → St
@@ -61,7 +60,7 @@ state m = st m.work.now m.steps
 
 -- the lent memory is the same one, as long as it was, and things lie where they lay
 abbrev pub Same : Memory → Memory → Type 0
-Same m m' = (m'.work.ghost_name ≡ m.work.ghost_name) × (m'.size ≡ m.size) × (length m'.work.now ≡ length m.work.now)
+Same m m' = (m'.work.ghost_name ≡ m.work.ghost_name) × (m'.cells ≡ m.cells) × (length m'.work.now ≡ length m.work.now)
 
 -- what a function leaves: the memory, the count and the reference are those of g, or of s
 pub record Given (g : Got) (m : Memory) (c : ℕ) : Type 0 where

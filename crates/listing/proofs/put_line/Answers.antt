@@ -1,32 +1,32 @@
 use native.Mathlib.Omega.{arith}
 use mathlib.Core.Path.{◌≡◌, ap}
 use Prim.Native.Nat.{ℕ, ◌+◌}
-use lib.ListN.{length, get_or, length-append}
+use lib.ListN.{length, length-append}
 use Rattle.listing.specs.Listing.{decimal, line}
 use Rattle.listing.specs.inner.Parts.{entry_in, word_of, operands}
 use Rattle.listing.proofs.Lines.{line_size, line_put}
 use Rattle.listing.proofs.put_line.Goals as goal
-use Rattle.listing.proofs.put_line.Goals.{After-unwrap-kind}
+use Rattle.listing.proofs.put_line.Goals.{After-unwrap-entry}
 
-size : (c : After-unwrap-kind) → length (line c.args.i (entry_in c.args.list.now c.args.text.now c.args.i)) ≡ length (decimal c.args.i) + length (word_of c.unwrap-kind.result) + length (operands c.args.text.now c.unwrap-kind.result (get_or c.args.list.now.left c.args.i 0) (get_or c.args.list.now.right c.args.i 0)) + 2
-size c = line_size c.args.list.now c.args.text.now c.args.i _ (rw c.unwrap-kind.ensures at c.try_from.ensures)
+size : (c : After-unwrap-entry) → length (line c.args.i (entry_in c.args.list.now c.args.text.now c.args.i)) ≡ length (decimal c.args.i) + length (word_of c.unwrap-entry.result.kind) + length (operands c.args.text.now c.unwrap-entry.result.kind c.unwrap-entry.result.a c.unwrap-entry.result.b) + 2
+size c = line_size c.args.list.now c.args.text.now c.args.i (rw c.unwrap-entry.ensures at c.entry.ensures)
 
 pub put_number-requires-clause-room : goal.put_number-requires-clause-room
-put_number-requires-clause-room c = omega (arith, c.requires.room, size (goal.at.put_number-requires-clause-room c).After-unwrap-kind)
+put_number-requires-clause-room c = omega (arith, c.requires.room, size (goal.at.put_number-requires-clause-room c).After-unwrap-entry)
 
 pub put-requires : goal.put-requires
-put-requires c = omega (arith, c.requires.room, size (goal.at.put-requires c).After-unwrap-kind, ap length c.put_number.ensures, length-append {A = ℕ})
+put-requires c = omega (arith, c.requires.room, size (goal.at.put-requires c).After-unwrap-entry, ap length c.put_number.ensures, length-append {A = ℕ})
 
 pub put-requires-2 : goal.put-requires-2
-put-requires-2 c = omega (arith, c.requires.room, size (goal.at.put-requires-2 c).After-unwrap-kind, ap length c.put_number.ensures, ap length c.put.ensures, ap length c.word_of.ensures, length-append {A = ℕ})
+put-requires-2 c = omega (arith, c.requires.room, size (goal.at.put-requires-2 c).After-unwrap-entry, ap length c.put_number.ensures, ap length c.put.ensures, ap length c.word_of.ensures, length-append {A = ℕ})
 
 pub put_operands-requires-clause-room : goal.put_operands-requires-clause-room
-put_operands-requires-clause-room c = omega (arith, c.requires.room, size (goal.at.put_operands-requires-clause-room c).After-unwrap-kind, ap length c.put_number.ensures, ap length c.put.ensures, ap length c.put-2.ensures, ap length c.word_of.ensures, length-append {A = ℕ})
+put_operands-requires-clause-room c = omega (arith, c.requires.room, size (goal.at.put_operands-requires-clause-room c).After-unwrap-entry, ap length c.put_number.ensures, ap length c.put.ensures, ap length c.put-2.ensures, ap length c.word_of.ensures, length-append {A = ℕ})
 
 pub put-requires-3 : goal.put-requires-3
-put-requires-3 c = omega (arith, c.requires.room, size (goal.at.put-requires-3 c).After-unwrap-kind, ap length c.put_number.ensures, ap length c.put.ensures, ap length c.put-2.ensures, ap length c.word_of.ensures, ap length c.put_operands.ensures, length-append {A = ℕ})
+put-requires-3 c = omega (arith, c.requires.room, size (goal.at.put-requires-3 c).After-unwrap-entry, ap length c.put_number.ensures, ap length c.put.ensures, ap length c.put-2.ensures, ap length c.word_of.ensures, ap length c.put_operands.ensures, length-append {A = ℕ})
 
 pub returns : goal.returns
 returns c =
-    let e = line_put c.args.list.now c.args.text.now c.args.i _ (rw c.unwrap-kind.ensures at c.try_from.ensures) c.args.page.now in
+    let e = line_put c.args.list.now c.args.text.now c.args.i (rw c.unwrap-entry.ensures at c.entry.ensures) c.args.page.now in
     cc

@@ -2,9 +2,9 @@
 use mathlib.Core.Path.{sym}
 use native.Mathlib.Omega.{arith}
 use borrow.Author.Tests.{eqb-true}
-use Rattle.reader.proofs.Outcome.{sized, wrong_length, not_grammar, none_written, not_written, too_deep, too_many, all_read}
+use Rattle.reader.proofs.Outcome.{sized, wrong_length, not_grammar, nothing, not_ended, Ended, ended, too_deep, too_many, all_read}
 use Rattle.reader.proofs.question_read.Goals as goal
-use Rattle.reader.proofs.question_read.Goals.{then-is_empty-via-then-is_empty, then-is_empty-via-else-is_empty+then-text-gt255}
+use Rattle.reader.proofs.question_read.Goals.{then-is_empty-via-then-is_empty, then-is_empty-via-else-is_empty+then-text-gt255, then-is_none-via-then-is_none, then-is_none-via-else-is_none+then-s-text, Else-s-text}
 
 pub returns-then-is_empty : goal.returns-then-is_empty
 returns-then-is_empty c = wrong_length (λ h. elim c.then-is_empty.branch [
@@ -12,17 +12,20 @@ returns-then-is_empty c = wrong_length (λ h. elim c.then-is_empty.branch [
   | then-is_empty-via-else-is_empty+then-text-gt255 w ↦ omega (arith, h.1, w.if-text-gt255.true)
 ])
 
-pub returns-in_default : goal.returns-in_default
-returns-in_default c = not_grammar (sized _ (sym c.if-is_empty.ensures) c.if-text-gt255.false) (none_written c.in_default.ensures)
+pub returns-then-is_none : goal.returns-then-is_none
+returns-then-is_none c = not_grammar (sized _ (sym c.if-is_empty.ensures) c.if-text-gt255.false) (elim c.then-is_none.branch [
+  | then-is_none-via-then-is_none w ↦ nothing _ c.args.text c.question.new.s c.question.result w.if-is_none.ensures c.question.ensures
+  | then-is_none-via-else-is_none+then-s-text w ↦ not_ended _ c.args.text c.question.new.s c.question.result w.if-is_none.ensures c.question.ensures w.if-s-text.true
+])
 
-pub returns-then-s-text : goal.returns-then-s-text
-returns-then-s-text c = not_grammar (sized _ (sym c.if-is_empty.ensures) c.if-text-gt255.false) (not_written c.in-Some.ensures c.if-s-text.true)
+read : (c : Else-s-text) → Ended c.args.text.now c.args.text c.question.new.s
+read c = ended _ c.args.text c.question.new.s (sized _ (sym c.if-is_empty.ensures) c.if-text-gt255.false) c.question.result c.if-is_none.ensures c.question.ensures c.if-s-text.false
 
 pub returns-then-s-gt12 : goal.returns-then-s-gt12
-returns-then-s-gt12 c = too_deep c.in-Some.ensures (sized _ (sym c.if-is_empty.ensures) c.if-text-gt255.false) c.if-s-text.false (omega arith)
+returns-then-s-gt12 c = too_deep (read (goal.at.returns-then-s-gt12 c).Else-s-text) (omega arith)
 
 pub returns-then-s-gt32 : goal.returns-then-s-gt32
-returns-then-s-gt32 c = too_many c.in-Some.ensures (sized _ (sym c.if-is_empty.ensures) c.if-text-gt255.false) c.if-s-text.false c.if-s-gt12.false (omega arith)
+returns-then-s-gt32 c = too_many (read (goal.at.returns-then-s-gt32 c).Else-s-text) c.if-s-gt12.false (omega arith)
 
 pub returns : goal.returns
-returns c = all_read c.in-Some.ensures (sized _ (sym c.if-is_empty.ensures) c.if-text-gt255.false) c.if-s-text.false c.if-s-gt12.false (omega arith)
+returns c = all_read (read (goal.at.returns c).Else-s-text) c.if-s-gt12.false (omega arith)

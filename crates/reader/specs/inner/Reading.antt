@@ -29,17 +29,17 @@ pushed l kind a b = record {
 }
 
 abbrev pub added : State → ℕ → ℕ → ℕ → State
-added s kind a b = record { text = s.text; at = s.at; depth = s.depth; most = s.most; list = pushed s.list kind a b }
+added s kind a b = record { text = s.text; at = s.at; depth = s.depth; deepest = s.deepest; list = pushed s.list kind a b }
 
 abbrev pub moved : State → ℕ → State
-moved s at = record { text = s.text; at = at; depth = s.depth; most = s.most; list = s.list }
+moved s at = record { text = s.text; at = at; depth = s.depth; deepest = s.deepest; list = s.list }
 
 -- past an opening bracket, and past a closing one
 abbrev pub deepened : State → ℕ → State
-deepened s at = record { text = s.text; at = at; depth = s.depth + 1; most = max s.most (s.depth + 1); list = s.list }
+deepened s at = record { text = s.text; at = at; depth = s.depth + 1; deepest = max s.deepest (s.depth + 1); list = s.list }
 
 abbrev pub closed : State → State
-closed s = record { text = s.text; at = s.at + 1; depth = s.depth - 1; most = s.most; list = s.list }
+closed s = record { text = s.text; at = s.at + 1; depth = s.depth - 1; deepest = s.deepest; list = s.list }
 
 abbrev pub byte_at : Bytes → ℕ → ℕ
 byte_at t at = get_or t at 0
@@ -172,7 +172,7 @@ pub record Made (t : Bytes) (s r : State) (n : ℕ) (w : Bytes) (a : Term Place)
   pub place : r.at ≡ s.at + length w
   pub list : r.list ≡ emitted a s.list
   pub top : n ≡ root s.list.count a
-  pub most : r.most ≡ k s.most
+  pub deepest : r.deepest ≡ k s.deepest
 
 abbrev pub MadeOf : (g : Form) → Bytes → State → State → ℕ → TreeOf g → Type 0
 MadeOf g t s r n c = Made t s r n (text_of g c) (term_of g s.at c) (reach_of g s.depth c)
@@ -228,13 +228,13 @@ abbrev pub Reads : Form → State → State → Option ℕ → Type 0
 Reads g s r o = ReadsIn g s.text.now s r o
 
 -- CHAINS: `|` joins conjunctions to a question, `&` units to a conjunction
-abbrev pub whole : Chain → Form
-whole Chain.Ors = Form.question
-whole Chain.Ands = Form.conj
+abbrev pub whole_chain : Chain → Form
+whole_chain Chain.Ors = Form.question
+whole_chain Chain.Ands = Form.conj
 
-abbrev pub item : Chain → Form
-item Chain.Ors = Form.conj
-item Chain.Ands = Form.unit
+abbrev pub chain_part : Chain → Form
+chain_part Chain.Ors = Form.conj
+chain_part Chain.Ands = Form.unit
 
 abbrev pub sign : Chain → ℕ
 sign Chain.Ors = 124

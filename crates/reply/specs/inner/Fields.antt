@@ -1,12 +1,14 @@
 -- What inner functions read: the fields at a place, and the bounds that the width gives.
-use Rattle.std.specs.Prelude.{ℕ, ◌+◌, ◌^◌, ◌≤◌, ◌<◌, ◌≡◌, Option, Some, None}
+use Rattle.std.specs.Prelude.{ℕ, ◌+◌, ◌^◌, ◌≤◌, ◌<◌, ◌≡◌, Option, Some, None, Result, MatchResult}
 use Rattle.bits.specs.Fields.{field_at}
 use Rattle.meaning.specs.Bytes.{Bytes}
 use Rattle.reply.specs.inner.Decode.{ref_width, number_of, fragment_of, entries_of, ins_of, steps_of, in_at}
 use Rattle.reply.specs.declared.Head.{Head}
 use Rattle.reply.specs.declared.RefKind.{RefKind}
 use Rattle.reply.specs.declared.Op.{Op}
-use Rattle.reply.specs.declared.RefField.{RefField}
+use Rattle.reply.specs.declared.UnknownOp.{UnknownOp}
+use Rattle.bits.specs.declared.Field.{Field}
+use Rattle.reply.specs.declared.Reference.{Reference}
 use Rattle.reply.specs.declared.StepField.{StepField}
 
 -- ---- the codes of a reference's kind and of a step's operation; code 3 names no operation
@@ -21,6 +23,10 @@ op_code (Some Op.And) = 0
 op_code (Some Op.Or) = 1
 op_code (Some Op.Not) = 2
 op_code None = 3
+
+-- the operation with this code, or the code, where it names none
+abbrev pub Decodes : ℕ → Result Op UnknownOp → Type 0
+Decodes code r = MatchResult r (λ op. op_code (Some op) ≡ code) (λ e. (e.0 ≡ code) × (2 < code))
 
 pub record HeadIs (s : Bytes) (h : Head) : Type 0 where
   pub number_is : h.number ≡ number_of s
@@ -37,7 +43,7 @@ pub record InIs (s : Bytes) (i x : ℕ) : Type 0 where
   pub in_is : x ≡ in_at s i
   pub in_lt : x < 32
 
-pub record RefIs (w : ℕ) (s : Bytes) (at : ℕ) (r : RefField) : Type 0 where
+pub record RefIs (w : ℕ) (s : Bytes) (at : ℕ) (r : Field Reference) : Type 0 where
   pub kind_is : kind_code r.value.kind ≡ field_at s at 2
   pub number_is : r.value.number ≡ field_at s (at + 2) w
   pub next_is : r.next.at ≡ at + ref_width w

@@ -8,7 +8,8 @@ use Rattle.reply.specs.WellFormed.{WellFormed, Fits}
 use Rattle.reply.specs.inner.Decode.{well_formed, fits, size}
 use Rattle.reply.specs.inner.Fields.{HeadIs, InIs, RefIs, StepIs}
 use Rattle.reply.specs.declared.Head.{Head}
-use Rattle.reply.specs.declared.RefField.{RefField}
+use Rattle.bits.specs.declared.Field.{Field}
+use Rattle.reply.specs.declared.Reference.{Reference}
 use Rattle.reply.specs.declared.StepField.{StepField}
 
 -- the tests that `read` makes say what `WellFormed` and `Fits` say
@@ -27,7 +28,7 @@ abbrev pub OneIn : Type 0
 OneIn = (s : Bytes) (i a b : ℕ) → InIs s i a → InIs s i b → a ≡ b
 
 abbrev pub OneRef : Type 0
-OneRef = (w : ℕ) (s : Bytes) (at : ℕ) (a b : RefField) → RefIs w s at a → RefIs w s at b → a ≡ b
+OneRef = (w : ℕ) (s : Bytes) (at : ℕ) (a b : Field Reference) → RefIs w s at a → RefIs w s at b → a ≡ b
 
 abbrev pub OneStep : Type 0
 OneStep = (w : ℕ) (s : Bytes) (at : ℕ) (a b : StepField) → StepIs w s at a → StepIs w s at b → a ≡ b

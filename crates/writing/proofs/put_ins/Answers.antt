@@ -1,13 +1,13 @@
 use Prim.Native.Nat.{◌<◌}
 use mathlib.Core.Path.{◌≡◌, ap, ◌∙◌}
 use native.Mathlib.Omega.{arith}
-use lib.ListN.{length}
+use lib.ListN.{length, length-append}
 use Rattle.bits.specs.Bits.{digits}
 use Rattle.bits.proofs.Laws.{wrote_none, wrote_append}
 use Rattle.writing.specs.inner.Codes.{bare}
 use Rattle.meaning.specs.Fragment.{row_count}
 use Rattle.reply.proofs.Lists.{each_append}
-use Rattle.writing.proofs.Chunks.{left_all, chunk_of, one_more, left_end}
+use Rattle.writing.proofs.Chunks.{left_all, chunk_of, left_end}
 use Rattle.writing.proofs.Codes.{rows_none, first_ins, row_at, ins_none, ins_more, ins_longer, ins_room, ins_all}
 use Rattle.writing.proofs.put_ins.Goals as goal
 
@@ -42,7 +42,7 @@ loop-row-preserved c =
     let s = c.in-Some.ensures.steps in
     let q = chunk_of 6 k r _ c.in-Some.row.now c.next.new.self.rest.now (omega arith) i.left s.1.0 (s.1.1 ∙ i.size) in
     let e = rw (q.at 1 (omega arith), q.at 2 (omega arith)) at c.put_row-c.ensures in
-    rw one_more (record {
+    rw length-append (record {
       size = s.0 ∙ i.size;
       left = q.next;
       at = omega (arith, e.1, i.at, ins_longer r k);

@@ -1,11 +1,11 @@
 use Prim.Native.Nat.{◌/◌}
 use mathlib.Core.Path.{◌≡◌, ◌∙◌}
 use native.Mathlib.Omega.{arith}
-use lib.ListN.{length}
+use lib.ListN.{length, length-append}
 use Rattle.bits.proofs.Laws.{wrote_none, wrote_append}
 use Rattle.reply.specs.inner.Decode.{step_width}
 use Rattle.reply.proofs.Judge.{next_place, first_place}
-use Rattle.writing.proofs.Chunks.{left_all, chunk_of, one_more, left_end}
+use Rattle.writing.proofs.Chunks.{left_all, chunk_of, left_end}
 use Rattle.writing.proofs.Codes.{steps_none, step_here, code_here}
 use Rattle.writing.proofs.put_steps.Goals as goal
 
@@ -36,7 +36,7 @@ loop-step-preserved c =
     let s = c.in-Some.ensures.steps in
     let q = chunk_of 3 k a.steps.now _ c.in-Some.step.now c.next.new.self.rest.now (omega arith) i.left s.1.0 (s.1.1 ∙ i.size) in
     let e = c.put_step-c.ensures in
-    rw one_more (record {
+    rw length-append (record {
       size = s.0 ∙ i.size;
       left = q.next;
       at = omega (arith, e.1, i.at, next_place (step_width a.w) a.c.at k);

@@ -1,6 +1,6 @@
 -- How a depot's memory of 16-bit numbers holds a formula: a reference is one number, kind × 4,096 + number; a step is three, its operation
 -- (0 and, 1 or, 2 not) and its references, 0 for the second of not.
-use Rattle.std.specs.Prelude.{ℕ, ◌+◌, ◌*◌, ◌/◌, ◌%◌, ◌^◌, ◌≤◌, ◌<◌, ◌≡◌, cond, List, [], ◌∷◌, ◌++◌, length, get_or, drop, eqb}
+use Rattle.std.specs.Prelude.{ℕ, ◌+◌, ◌*◌, ◌/◌, ◌%◌, ◌^◌, ◌≤◌, ◌<◌, ◌≡◌, cond, List, [], ◌∷◌, ◌++◌, ◌-◌, length, get_or, take, drop, eqb}
 use Rattle.meaning.specs.Bytes.{Bytes}
 use Rattle.meaning.specs.Formula.{Ref, Step}
 use Rattle.meaning.specs.Fragment.{Fragment, num, row_count, rows_of}
@@ -59,6 +59,17 @@ pub record FormulaIn (w : ℕ) (work : List ℕ) (at steps v_at d_at entries : �
   pub v_good : (e : ℕ) → e < entries → RefCode w (get_or work (v_at + e) 0)
   pub d_good : (e : ℕ) → e < entries → RefCode w (get_or work (d_at + e) 0)
 
+-- steps, V and D as lists of their own, each in a code; V and D are equally long
+pub record HeldIn (w : ℕ) (steps v d : List ℕ) : Type 0 where
+  pub same : length d ≡ length v
+  pub steps_good : (i : ℕ) → i < length steps / 3 → StepCode w steps (i * 3)
+  pub v_good : (e : ℕ) → e < length v → RefCode w (get_or v e 0)
+  pub d_good : (e : ℕ) → e < length d → RefCode w (get_or d e 0)
+
+-- n numbers of the memory, from a place on
+abbrev pub cut : List ℕ → ℕ → ℕ → List ℕ
+cut work at n = take (at + n - at) (drop at work)
+
 -- the fragments that rows stand for, in order; the pool plays no part
 abbrev pub bare : List ℕ → Fragment
 bare rows = record { rows = rows; pool = [] }
@@ -89,6 +100,18 @@ reply_in number fragment entries rows work at steps v_at d_at = record {
   steps = steps_at work at steps;
   v = refs_at work v_at entries;
   d = refs_at work d_at entries;
+}
+
+-- the same of lists that are cut from it
+unfoldable pub reply_held : ℕ → ℕ → List ℕ → List ℕ → List ℕ → List ℕ → Reply
+reply_held number fragment rows steps v d = record {
+  number = number;
+  fragment = fragment;
+  entries = length v;
+  ins = row_ins rows;
+  steps = steps_at steps 0 (length steps / 3);
+  v = refs_at v 0 (length v);
+  d = refs_at d 0 (length d);
 }
 
 -- what writing leaves: the reply's bytes, and the old ones past its end

@@ -1,5 +1,6 @@
 use native.Mathlib.Nat.{sub_self}
-use Rattle.bits.proofs.Digits.{zeros_more}
+use mathlib.Core.Bool.{false}
+use lib.ListN.{replicate-append-replicate}
 use Rattle.bits.proofs.Laws.{wrote_none, wrote_append}
 use Prim.Native.Nat.{◌+◌, ◌-◌}
 use mathlib.Core.Path.{◌≡◌, refl}
@@ -13,7 +14,7 @@ pub loop-at-preserved : goal.loop-at-preserved
 loop-at-preserved c =
     let a = c.args in
     let e : c.loop-at.at + 1 - a.self.at ≡ c.loop-at.at - a.self.at + 1 = omega arith in
-    rw (e, zeros_more (c.loop-at.at - a.self.at) 1) (wrote_append c.loop-at.invariant c.set_bit.ensures)
+    rw (e, ← replicate-append-replicate (c.loop-at.at - a.self.at) 1 false) (wrote_append c.loop-at.invariant c.set_bit.ensures)
 
 pub returns : goal.returns
 returns c =

@@ -1,7 +1,7 @@
 use native.Mathlib.Omega.{arith}
 use Rattle.meaning.specs.Refused.{refused, passed}
 use Rattle.meaning.proofs.Says.{says_true, says_false}
-use Rattle.depot.proofs.Answers.{cells_few}
+use Rattle.formula.proofs.Counts.{cells_few}
 use Rattle.depot.proofs.Call.check.Goals as goal
 use Rattle.depot.proofs.Call.check.Goals.{then-self-eq0-via-then-self-eq0, then-self-eq0-via-else-self-eq0+then-not-list_ok}
 
@@ -11,17 +11,14 @@ returns-then-self-eq0 c = elim c.then-self-eq0.branch [
   | then-self-eq0-via-else-self-eq0+then-not-list_ok w ↦ refused (λ a. says_false w.list_ok.ensures w.if-not-list_ok.true a.0)
 ]
 
-pub returns-then-not-fragment_ok : goal.returns-then-not-fragment_ok
-returns-then-not-fragment_ok c = passed (says_true c.list_ok.ensures c.if-not-list_ok.false, omega arith) (refused (says_false c.fragment_ok.ensures c.if-not-fragment_ok.true))
+pub returns-then-not-ok : goal.returns-then-not-ok
+returns-then-not-ok c = passed (says_true c.list_ok.ensures c.if-not-list_ok.false, omega arith) (refused (says_false c.ok.ensures c.if-not-ok.true))
 
-pub overflow_mul-cells-2 : goal.overflow_mul-cells-2
-overflow_mul-cells-2 c = omega (arith, cells_few _ _ _ _ (says_true c.fragment_ok.ensures c.if-not-fragment_ok.false) (says_true c.list_ok.ensures c.if-not-list_ok.false))
+pub layout-requires : goal.layout-requires
+layout-requires c = cells_few _ _ _ _ (says_true c.ok.ensures c.if-not-ok.false) (says_true c.list_ok.ensures c.if-not-list_ok.false)
 
-pub overflow_add-cells : goal.overflow_add-cells
-overflow_add-cells c = omega (arith, cells_few _ _ _ _ (says_true c.fragment_ok.ensures c.if-not-fragment_ok.false) (says_true c.list_ok.ensures c.if-not-list_ok.false))
-
-pub returns-then-room-cells : goal.returns-then-room-cells
-returns-then-room-cells c = passed (says_true c.list_ok.ensures c.if-not-list_ok.false, omega arith) (passed (says_true c.fragment_ok.ensures c.if-not-fragment_ok.false) (refused (λ u. omega (arith, u))))
+pub returns-then-room-layout : goal.returns-then-room-layout
+returns-then-room-layout c = passed (says_true c.list_ok.ensures c.if-not-list_ok.false, omega arith) (passed (says_true c.ok.ensures c.if-not-ok.false) (refused (λ u. omega (arith, u))))
 
 pub returns : goal.returns
-returns c = record { asks = (says_true c.list_ok.ensures c.if-not-list_ok.false, omega arith); sound = says_true c.fragment_ok.ensures c.if-not-fragment_ok.false; enough = c.if-room-cells.false }
+returns c = record { asks = (says_true c.list_ok.ensures c.if-not-list_ok.false, omega arith); sound = says_true c.ok.ensures c.if-not-ok.false; enough = omega (arith, c.if-room-layout.false, c.layout.ensures.need) }

@@ -22,4 +22,4 @@ pushed-requires-clause-count_bound_2 c = omega (arith, parent_block _ _ c.requir
 pub returns-clause-does : goal.returns-clause-does
 returns-clause-does c =
     let s = c.args.source.now in
-    does_along _ _ (delivered_is s.list s.text.now (fragment_of s) c.args.self.now.size c.args.k c.args.place _ _ (state c.args.self.now) c.if-k-eq0.false c.in_ok-row.ensures.same.1 refl c.in_ok-row.ensures.does.is) c.pushed.ensures.does
+    does_along _ _ (delivered_is s.list s.text.now (fragment_of s) c.args.self.now.cells c.args.k c.args.place _ _ (state c.args.self.now) c.if-k-eq0.false c.in_ok-row.ensures.same.1 refl c.in_ok-row.ensures.does.is) c.pushed.ensures.does

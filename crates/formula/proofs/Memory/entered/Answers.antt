@@ -3,7 +3,7 @@ use lib.ListN.{length-set}
 use borrow.Author.Rules.{rules}
 use Rattle.formula.specs.inner.Flat.{enter_f}
 use Rattle.formula.proofs.Grows.{join_over}
-use Rattle.formula.proofs.Stops.{does_stop, room_kept, then_stops, then_is}
+use Rattle.formula.proofs.Stops.{does_stop, then_stops, then_is}
 use Rattle.formula.proofs.Memory.entered.Goals as goal
 
 pub returns-in_err-v-clause-does : goal.returns-in_err-v-clause-does
@@ -12,9 +12,6 @@ returns-in_err-v-clause-does c = does_stop _ _ _ c.from_residual.ensures (join_o
 
 pub bounds-self-lower : goal.bounds-self-lower
 bounds-self-lower c = omega (arith, c.value.ensures.same.2)
-
-pub either-requires : goal.either-requires
-either-requires c = room_kept _ _ c.requires.room c.in_ok-v.ensures.same c.in_ok-v.ensures.gives.count
 
 pub returns-in_err-d-clause-does : goal.returns-in_err-d-clause-does
 unfolding enter_f

@@ -9,7 +9,7 @@ loop-e-preserved c =
     record {
       same = (s.0, s.1, simp length-set s.2);
       steps = c.loop-e.invariant.steps;
-      memory = onward _ _ _ c.loop-e-test.true c.loop-e.invariant.memory (var_is c.args.self.now.size c.args.at c.args.count c.args.first c.loop-e.e c.loop-e.self.work.now s.1 (omega arith) (omega arith));
+      memory = onward _ _ _ c.loop-e-test.true c.loop-e.invariant.memory (var_is c.args.self.now.cells c.args.at c.args.count c.args.first c.loop-e.e c.loop-e.self.work.now s.1 (omega arith) (omega arith));
     }
 
 pub returns-clause-memory : goal.returns-clause-memory

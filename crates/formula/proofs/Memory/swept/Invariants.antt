@@ -11,7 +11,7 @@ abbrev pub invariant-loop-k : goal.invariant-loop-k
 invariant-loop-k l =
     let s = l.source in
     let rows = s.fragment.rows.now in
-    let size = l.initial.self.size in
+    let size = l.initial.self.cells in
     record {
       place : l.place ≡ count (stands rows) l.k;
       falling : Falling l.initial.self l.self (λ j. deliver_f s.list s.text.now (fragment_of s) size j (count (stands rows) j)) l.k (sweep_f s.list s.text.now (fragment_of s) size (length rows / 6) (state l.initial.self));

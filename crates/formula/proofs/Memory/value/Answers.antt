@@ -1,17 +1,17 @@
 use native.Mathlib.Omega.{arith}
 use Rattle.question.specs.Listed.{entry_of}
 use Rattle.formula.proofs.KindTests.{told_value, child_value, below_value, both_value}
-use Rattle.formula.proofs.Stops.{gives_along}
+use Rattle.formula.proofs.Stops.{room_of, gives_along}
 use Rattle.formula.proofs.Memory.value.Goals as goal
 
 pub returns-in-Itself-clause-gives : goal.returns-in-Itself-clause-gives
-returns-in-Itself-clause-gives c = record { is = told_value _ _ _ _ _ _ _ c.args.x.kind c.in-Itself.is; count = c.requires.room.count }
+returns-in-Itself-clause-gives c = record { is = told_value _ _ _ _ _ _ _ c.args.x.kind c.in-Itself.is; count = (room_of c.args.self.now).count }
 
 pub returns-in-Child-clause-gives : goal.returns-in-Child-clause-gives
-returns-in-Child-clause-gives c = record { is = child_value _ _ _ _ _ _ _ c.args.x.kind c.in-Child.is (omega arith); count = c.requires.room.count }
+returns-in-Child-clause-gives c = record { is = child_value _ _ _ _ _ _ _ c.args.x.kind c.in-Child.is (omega arith); count = (room_of c.args.self.now).count }
 
 pub returns-in-Below-clause-gives : goal.returns-in-Below-clause-gives
-returns-in-Below-clause-gives c = record { is = below_value _ _ _ _ _ _ _ c.args.x.kind c.in-Below.is (omega arith); count = c.requires.room.count }
+returns-in-Below-clause-gives c = record { is = below_value _ _ _ _ _ _ _ c.args.x.kind c.in-Below.is (omega arith); count = (room_of c.args.self.now).count }
 
 pub returns-in-Not-clause-gives : goal.returns-in-Not-clause-gives
 unfolding entry_of

@@ -23,4 +23,4 @@ unfolding entry_of text_is
 returns-in-Text c = rw c.in-Text.is (c.constant-in-Text.ensures ∙ ap truth c.same_word-in-Text.ensures)
 
 pub returns-in_default : goal.returns-in_default
-returns-in_default c = told_test c.args.self.now.text.now (fragment_of c.args.self.now) c.args.k c.args.x.i c.args.x.j c.args.x.kind c.in_default.not-Label c.in_default.not-Text
+returns-in_default c = told_test c.args.self.now.text.now (fragment_of c.args.self.now) c.args.k c.args.x.a c.args.x.b c.args.x.kind c.in_default.not-Label c.in_default.not-Text

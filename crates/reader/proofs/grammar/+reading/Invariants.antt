@@ -14,11 +14,11 @@ rank Chain.Ands = 0
 abbrev pub decreases-question : goal.decreases-question
 decreases-question l = size 8 l.s.now.text.now l.s.now
 
-abbrev pub decreases-whole : goal.decreases-whole
-decreases-whole l = size (rank l.c + 5) l.s.now.text.now l.s.now
+abbrev pub decreases-whole_chain : goal.decreases-whole_chain
+decreases-whole_chain l = size (rank l.c + 5) l.s.now.text.now l.s.now
 
-abbrev pub decreases-item : goal.decreases-item
-decreases-item l = size (rank l.c + 4) l.s.now.text.now l.s.now
+abbrev pub decreases-chain_part : goal.decreases-chain_part
+decreases-chain_part l = size (rank l.c + 4) l.s.now.text.now l.s.now
 
 abbrev pub decreases-unit : goal.decreases-unit
 decreases-unit l = size 3 l.s.now.text.now l.s.now
@@ -35,8 +35,8 @@ decreases-named l = size 0 l.s.now.text.now l.s.now
 abbrev pub decreases-rest : goal.decreases-rest
 decreases-rest l = size 0 l.s.now.text.now l.s.now
 
-abbrev pub invariant-whole-loop-c : goal.invariant-whole-loop-c
-invariant-whole-loop-c l = Linked l.c l.fn.s.text.now l.fn.s l.s l.top
+abbrev pub invariant-whole_chain-loop-c : goal.invariant-whole_chain-loop-c
+invariant-whole_chain-loop-c l = Linked l.c l.fn.s.text.now l.fn.s l.s l.top
 
-abbrev pub decreases-whole-loop-c : goal.decreases-whole-loop-c
-decreases-whole-loop-c l = length l.s.text.now - l.s.at
+abbrev pub decreases-whole_chain-loop-c : goal.decreases-whole_chain-loop-c
+decreases-whole_chain-loop-c l = length l.s.text.now - l.s.at

@@ -8,5 +8,5 @@ abbrev pub invariant-loop-p : goal.invariant-loop-p
 invariant-loop-p l = record {
   same : l.self.rows ≡ l.initial.self.rows;
   long : length l.self.vars ≡ 2048;
-  gathered : Gathered l.s l.self.rows l.self.vars l.n l.p;
+  gathered : Gathered l.r.bytes.now l.self.rows l.self.vars l.n l.p;
 }

@@ -12,16 +12,16 @@ use Rattle.solving.proofs.Known.results.Goals as goal
 
 pub value-requires : goal.value-requires
 value-requires c =
-    let s = c.args.s.now in
-    let m = small s c.requires.0 in
-    let H = c.requires.1 in
-    ref_wider (vars_of s) (steps_of s) 2048 4096 _ _ (omega (arith, few_vars s c.requires.0)) m.few_steps
-    ((ref_good 12 _ _ _ _ _ c.take_ref-r.ensures).1 (rw (H.ins_is, H.steps_is) (results_good s c.requires.0 c.loop-e.e (omega arith))))
+    let s = c.args.r.now.bytes.now in
+    let m = small s c.args.r.now.sound in
+    let H = c.args.r.now.read in
+    ref_wider (vars_of s) (steps_of s) 2048 4096 _ _ (omega (arith, few_vars s c.args.r.now.sound)) m.few_steps
+    ((ref_good 12 _ _ _ _ _ c.take_ref-x.ensures).1 (rw (c.results_at-at.ensures, H.ins_is, H.steps_is) (results_good s c.args.r.now.sound c.loop-e.e (omega arith))))
 
 pub loop-e-preserved : goal.loop-e-preserved
 loop-e-preserved c =
-    let s = c.args.s.now in
-    let p = 60 + 5 * c.args.h.ins + 30 * c.args.h.steps in
+    let s = c.args.r.now.bytes.now in
+    let p = c.results_at-at.result in
     let α = truth_in c.args.self.now.vars in
     let vs = c.args.self.now.values in
     let v = rw (c.loop-e.invariant.vars, c.loop-e.invariant.values) at c.value.ensures in
@@ -29,5 +29,5 @@ loop-e-preserved c =
       vars = c.loop-e.invariant.vars;
       values = c.loop-e.invariant.values;
       put = put_more _ c.loop-e.self.rows (64 * c.args.f) c.loop-e.e (λ e. ref_value bool α vs (ref_at 12 s (p + 14 * e))) c.value.result (omega (arith, c.loop-e.invariant.put.long))
-          (v ∙ ap (ref_value bool α vs) (sym (ref_from_lem 12 s (p + 14 * c.loop-e.e) c.take_ref-r.result c.take_ref-r.ensures))) c.loop-e.invariant.put;
+          (v ∙ ap (ref_value bool α vs) (sym (ref_from_lem 12 s (p + 14 * c.loop-e.e) c.take_ref-x.result c.take_ref-x.ensures))) c.loop-e.invariant.put;
     }

@@ -11,5 +11,5 @@ abbrev pub invariant-loop-e : goal.invariant-loop-e
 invariant-loop-e l = record {
   vars : l.self.vars ≡ l.initial.self.vars;
   values : l.self.values ≡ l.initial.self.values;
-  put : Put l.initial.self.rows (64 * l.f) l.e (λ e. ref_value bool (truth_in l.initial.self.vars) l.initial.self.values (ref_at 12 l.s (l.at + 14 * e))) l.self.rows;
+  put : Put l.initial.self.rows (64 * l.f) l.e (λ e. ref_value bool (truth_in l.initial.self.vars) l.initial.self.values (ref_at 12 l.r.bytes.now (l.at + 14 * e))) l.self.rows;
 }

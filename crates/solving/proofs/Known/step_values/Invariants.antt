@@ -14,5 +14,5 @@ invariant-loop-i l = record {
   rows : l.self.rows ≡ l.initial.self.rows;
   vars : l.self.vars ≡ l.initial.self.vars;
   long : length l.self.values ≡ 4096;
-  values : take l.i l.self.values ≡ step_values bool (truth_in l.initial.self.vars) [] (tabulated l.i 0 (steps_from l.s l.at));
+  values : take l.i l.self.values ≡ step_values bool (truth_in l.initial.self.vars) [] (tabulated l.i 0 (steps_from l.r.bytes.now l.at));
 }

@@ -1,8 +1,8 @@
 -- `whole::Question::all_tiles` meets its contract.
-use Rattle.std.proofs.Common.{ℕ, inl, inr, ⊎_elim, arith, rules}
+use Rattle.std.proofs.Common.{ℕ, inl, inr, ⊎_elim, rules}
 use Rattle.meaning.proofs.Says.{says_iff, says_true, says_false, says_at}
 use Rattle.meaning.specs.Says.{Says}
-use Rattle.meaning.proofs.Ranges.{says_all}
+use Rattle.meaning.proofs.Ranges.{says_below, says_each}
 use Rattle.whole.specs.Whole.{Heard, start_of, size_of}
 use Rattle.whole.specs.inner.Steps.{TileOk}
 use Rattle.whole.proofs.Question.all_tiles.Goals as goal
@@ -10,10 +10,7 @@ use Rattle.whole.proofs.Question.all_tiles.Goals.{After-all}
 use Rattle.meaning.proofs.Numbers.{says_eqb}
 
 each : (c : After-all) → Says ((f : ℕ) → Heard c.args.self.now f → TileOk (Heard c.args.self.now) (start_of c.args.self.now) (size_of c.args.self.now) c.args.used f) c.all.result
-each c =
-    let q = c.args.self.now in
-    says_iff (λ w f h. w f (omega arith) h.0 h) (λ w f a k. w f)
-    (says_all _ _ _ c.all.result (λ f. Heard q f → TileOk (Heard q) (start_of q) (size_of q) c.args.used f) c.all.ensures.ran (λ x b q k. (search rules, search (rules, says_at))))
+each c = says_each (λ f h. h.0) (says_below _ c.all.ensures.ran (λ x b q k. (search rules, search (rules, says_at))))
 
 pub returns-then-used-eq0 : goal.returns-then-used-eq0
 returns-then-used-eq0 c = says_iff (λ e. record { each = says_true (each (goal.at.returns-then-used-eq0 c).After-all) c.if-all.true; begins = inl e }) (λ t. c.if-used-eq0.true) (says_eqb _ _)

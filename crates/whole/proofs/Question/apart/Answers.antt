@@ -1,7 +1,7 @@
 -- `whole::Question::apart` meets its contract.
 use Rattle.std.proofs.Common.{◌-◌, inl, inr, ⊎_elim, arith}
 use Rattle.std.proofs.Common.{get_or}
-use Rattle.meaning.proofs.Says.{says_false, says_iff, says_true}
+use Rattle.meaning.proofs.Says.{says_false, says_given, says_iff, says_true}
 use Rattle.meaning.specs.Says.{aye}
 use Rattle.whole.proofs.Question.apart.Goals as goal
 use Rattle.whole.proofs.Question.apart.Goals.{then-g-f-via-then-g-f, then-g-f-via-else-g-f+then-not-is_heard}
@@ -16,11 +16,11 @@ returns-then-a-self c = says_iff (λ z h n. inl z) (λ k. c.if-a-self.true) (say
 pub returns-then-b-a : goal.returns-then-b-a
 returns-then-b-a c =
     let q = c.args.self.now in
-    says_iff (λ z h n. inr (omega (arith, z))) (λ k. ⊎_elim (λ z. absurd (omega (arith, z))) (λ z. omega (arith, z)) (k (says_true c.is_heard.ensures c.if-not-is_heard.false) c.if-g-f.false))
-    (says_leb (get_or q.size c.args.g 0) (get_or q.place c.args.f 0 - get_or q.place c.args.g 0))
+    says_given (says_true c.is_heard.ensures c.if-not-is_heard.false) (says_given c.if-g-f.false
+    (says_iff (λ z. inr (omega (arith, z))) (λ k. ⊎_elim (λ z. absurd (omega (arith, z))) (λ z. omega (arith, z)) k) (says_leb (get_or q.size c.args.g 0) (get_or q.place c.args.f 0 - get_or q.place c.args.g 0))))
 
 pub returns-else-b-a : goal.returns-else-b-a
 returns-else-b-a c =
     let q = c.args.self.now in
-    says_iff (λ z. absurd (omega (arith, z))) (λ k. ⊎_elim (λ z. absurd (omega (arith, z))) (λ z. omega (arith, z)) (k (says_true c.is_heard.ensures c.if-not-is_heard.false) c.if-g-f.false))
-    (says_leb (get_or q.place c.args.g 0) (get_or q.place c.args.f 0))
+    says_given (says_true c.is_heard.ensures c.if-not-is_heard.false) (says_given c.if-g-f.false
+    (says_iff (λ z. absurd (omega (arith, z))) (λ k. ⊎_elim (λ z. absurd (omega (arith, z))) (λ z. omega (arith, z)) k) (says_leb (get_or q.place c.args.g 0) (get_or q.place c.args.f 0))))

@@ -1,8 +1,8 @@
--- `writing::Header::put` meets its contract.
+-- `writing::put_head` meets its contract.
 use native.Mathlib.Omega.{arith}
 use Rattle.bits.proofs.Laws.{wrote_append}
 use Rattle.reply.specs.Write.{head_bits}
-use Rattle.writing.proofs.Header.put.Goals as goal
+use Rattle.writing.proofs.put_head.Goals as goal
 
 pub returns : goal.returns
 unfolding head_bits
