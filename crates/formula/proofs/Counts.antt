@@ -4,29 +4,20 @@ use native.Mathlib.Omega.{arith}
 use native.Mathlib.Nat.{mul-le-mul_right}
 use mathlib.Core.Path.{◌≡◌, refl, sym, ap, ◌∙◌}
 use mathlib.Core.Bool.{Bool, true, false, cond}
-use mathlib.Core.List.{List, [], ◌∷◌, ◌++◌}
-use lib.ListN.{length, get_or, length-append}
+use mathlib.Core.List.{List}
+use lib.ListN.{length, get_or}
 use mir.Val.{bool_byte}
 use Rattle.meaning.specs.Says.{Says}
 use Rattle.meaning.proofs.Says.{says_same}
 use Rattle.meaning.proofs.Numbers.{says_eqb}
 use Rattle.meaning.specs.Bound.{count}
+use Rattle.meaning.proofs.StepBound.{count_stand_ins}
 use Rattle.meaning.specs.Bytes.{Bytes}
-use Rattle.meaning.specs.Fragment.{Fragment, Sound, Rows, row_count, rows_of}
+use Rattle.meaning.specs.Fragment.{Fragment, Sound, row_count, rows_of}
 use Rattle.question.specs.declared.List as L
 use Rattle.question.specs.Listed.{Keeps}
-use Rattle.meaning.specs.Reply.{stand_ins}
 use Rattle.writing.specs.inner.Codes.{bare, row_ins}
 use Rattle.formula.specs.inner.Flat.{stands}
-
-pub count_is : (R : Rows) (k : ℕ) → count R.stands k ≡ length (stand_ins R k)
-unfolding count stand_ins
-count_is R zero = refl
-count_is R (suc k) = go (R.stands k) (count_is R k)
-  where
-    go : (b : Bool) → count R.stands k ≡ length (stand_ins R k) → count R.stands k + cond b 1 0 ≡ length (cond b (stand_ins R k ++ (R.goes k ∷ [])) (stand_ins R k))
-    go true e = rw length-append (omega arith)
-    go false e = omega arith
 
 -- a stand-in at row k, as a number
 pub one_is : (rows : List ℕ) (k : ℕ) {b : Bool} {r : ℕ} → Says (get_or rows (k * 6 + 1) 0 ≡ 1) b → r ≡ bool_byte b → r ≡ cond (stands rows k) 1 0
@@ -58,7 +49,7 @@ count_most p (suc k) = go (p k) (count_most p k)
 -- the stand-ins that crate reply counts
 pub ins_count : (rows : List ℕ) → length (row_ins rows) ≡ count (stands rows) (length rows / 6)
 unfolding row_ins
-ins_count rows = sym (count_is (rows_of (bare rows)) (length rows / 6))
+ins_count rows = sym (count_stand_ins (rows_of (bare rows)) (length rows / 6))
 
 -- at most 512 rows of at most 32 entries
 pub cells_few : (part : ℕ) (F : Fragment) (l : L.List) (t : Bytes) → Sound part F → Keeps l t → row_count F * l.count ≤ 16384

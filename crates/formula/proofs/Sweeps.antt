@@ -28,7 +28,7 @@ use Rattle.formula.specs.inner.Flat.{St, st, down_from, stands, row_f, deliver_f
 use Rattle.formula.proofs.Held as Held
 use Rattle.formula.proofs.Held.{Sim, after, mapped}
 use Rattle.formula.proofs.Grows.{deliver_over, down_over, across_over, lift_over, push_grows, row_grows, sweep_grows}
-use Rattle.formula.proofs.Counts.{count_is}
+use Rattle.meaning.proofs.StepBound.{count_stand_ins}
 use Rattle.fragment.proofs.Rules.{block, sound_parent}
 use Rattle.question.proofs.Listed.{listed_length}
 use Rattle.formula.proofs.Visits.{Visited, visit_sim, stand_held}
@@ -165,7 +165,7 @@ module _ (l : L.List) (t : Bytes) (F : Fragment) (number : ℕ) (sound : Sound n
   sweep_sim : (k : ℕ) (z : St) (S : Tables formula) → k < row_count F → z.steps ≡ length S.st → length S.st ≤ 4096 → TabHeld size n (suc k) z.mem S
       → Sim (down_from f (suc k) z).steps (row formula R es v d 0 (sweep formula R es v d k S)).st (Laid size n (row formula R es v d 0 (sweep formula R es v d k S)) (down_from f (suc k) z).mem)
   unfolding down_from sweep deliver_f
-  sweep_sim zero z S inside counts most h = mapped laid (row_sim 0 (count (stands F.rows) 0) z S inside (count_is R 0) counts most h)
+  sweep_sim zero z S inside counts most h = mapped laid (row_sim 0 (count (stands F.rows) 0) z S inside (count_stand_ins R 0) counts most h)
     where
       o : Vectors formula
       o = row formula R es v d 0 S
@@ -179,7 +179,7 @@ module _ (l : L.List) (t : Bytes) (F : Fragment) (number : ℕ) (sound : Sound n
           second : (e : ℕ) → 2 * size + e ≡ 2 * size + 0 * n + e
           second e = omega arith
   sweep_sim (suc k) z S inside counts most h =
-      after (deliver_sim k (count (stands F.rows) (suc k)) z S inside (count_is R (suc k)) counts most h)
+      after (deliver_sim k (count (stands F.rows) (suc k)) z S inside (count_stand_ins R (suc k)) counts most h)
       (λ a b x. sweep_sim k (f (suc k) z) (deliver formula R es v d (suc k) S) (omega arith) a b x)
       (λ a. down_over f (λ i s h. deliver_over l t F size i (count (stands F.rows) i) s h) (suc k) (f (suc k) z) a)
       (both k (deliver formula R es v d (suc k) S))
