@@ -15,5 +15,6 @@ pub step_prop : (n m k ka xa kb xb : ℕ) → IsProp (StepOk n m k ka xa kb xb)
 unfolding StepOk
 step_prop n m zero ka xa kb xb = ×_prop (×_prop le_prop (ref_prop n m ka xa)) (×_prop le_prop (ref_prop n m kb xb))
 step_prop n m (suc zero) ka xa kb xb = ×_prop (×_prop le_prop (ref_prop n m ka xa)) (×_prop le_prop (ref_prop n m kb xb))
-step_prop n m (suc (suc zero)) ka xa kb xb = λ a b i. (×_prop le_prop (ref_prop n m ka xa) a.0 b.0 i, Coded-set coded_ℕ kb 0 a.1 b.1 i, Coded-set coded_ℕ xb 0 a.2 b.2 i)
+step_prop n m (suc (suc zero)) ka xa kb xb = λ a b i.
+    (×_prop le_prop (ref_prop n m ka xa) a.0 b.0 i, Coded-set coded_ℕ kb 0 a.1 b.1 i, Coded-set coded_ℕ xb 0 a.2 b.2 i)
 step_prop n m (suc (suc (suc k))) ka xa kb xb = λ a b. absurd a
