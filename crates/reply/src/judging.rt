@@ -103,10 +103,13 @@ fn steps_ok(s: &[u8], w: usize, at: usize, count: usize, vars: usize) -> bool
     ensures { Says ((i : _) → i < count → StepGood w s.now vars i (at + step_width w * i)) result }
 {
     let step_width = 2 + 2 * (2 + w);
-    (0..count).all(|i| {
+    for i in 0..count {
         let here = at + step_width * i;
-        take_step(Cursor { at: here }, s, w).is_good(Counts { vars, steps: i })
-    })
+        if !take_step(Cursor { at: here }, s, w).is_good(Counts { vars, steps: i }) {
+            return false;
+        }
+    }
+    true
 }
 
 // Whether each reference, from bit `at` on, may stand as a result. One function for this and `steps_ok` would take the width and the
@@ -116,10 +119,13 @@ fn refs_ok(s: &[u8], w: usize, at: usize, count: usize, counts: Counts) -> bool
     ensures { Says ((e : _) → e < count → RefGood w s.now counts.vars counts.steps (at + ref_width w * e)) result }
 {
     let ref_width = 2 + w;
-    (0..count).all(|e| {
+    for e in 0..count {
         let here = at + ref_width * e;
-        take_ref(Cursor { at: here }, s, w).value.is_result(counts)
-    })
+        if !take_ref(Cursor { at: here }, s, w).value.is_result(counts) {
+            return false;
+        }
+    }
+    true
 }
 
 // Whether this many bytes are what the header says, and its numbers are allowed.
