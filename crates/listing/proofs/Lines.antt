@@ -36,11 +36,13 @@ one_size n h = sym (ap length (one_digit n h))
 pub two_size : (n : ℕ) → 10 ≤ n → length (decimal n) ≡ 2
 two_size n h = sym (ap length (two_digits n h))
 
-pub put_one : (before : Bytes) (n : ℕ) → n < 10 → before ++ (48 + n % 10) ∷ [] ≡ before ++ decimal n
-put_one before n h = let e : n % 10 ≡ n = omega arith in rw e (ap (λ w. before ++ w) (one_digit n h))
+-- a number's bytes are put: x and y are the digits that the code puts
+pub put_one : (before : Bytes) {after : Bytes} {n y : ℕ} → n < 10 → after ≡ before ++ y ∷ [] → y ≡ 48 + n → after ≡ before ++ decimal n
+put_one before {n = n} h p e = rw (p, e) (ap (λ w. before ++ w) (one_digit n h))
 
-pub put_two : (before : Bytes) (n : ℕ) → 10 ≤ n → (before ++ (48 + n / 10) ∷ []) ++ (48 + n % 10) ∷ [] ≡ before ++ decimal n
-put_two before n h = append_assoc before ((48 + n / 10) ∷ []) ((48 + n % 10) ∷ []) ∙ ap (λ w. before ++ w) (two_digits n h)
+pub put_two : (before : Bytes) {tens after : Bytes} {n x y : ℕ} → 10 ≤ n → tens ≡ before ++ x ∷ [] → after ≡ tens ++ y ∷ [] → x ≡ 48 + n / 10 → y ≡ 48 + n % 10 → after ≡ before ++ decimal n
+put_two before {n = n} h p q d e =
+    rw (q, p, d, e) (append_assoc before ((48 + n / 10) ∷ []) ((48 + n % 10) ∷ []) ∙ ap (λ w. before ++ w) (two_digits n h))
 
 pub decimal_size : (n : ℕ) → length (decimal n) ≤ 2
 decimal_size n = elim (dec_lt n 10) [ yes h ↦ omega (arith, one_size n h) | no h ↦ omega (arith, two_size n (omega arith)) ]
@@ -88,9 +90,10 @@ module _ (l : L.List) (t : Bytes) (i : ℕ) {x : E.Entry} (is : IsEntry l i x) w
   pub line_size : length (line i (entry_in l t i)) ≡ length (decimal i) + length (word_of x.kind) + length (operands t x.kind x.a x.b) + 2
   line_size = omega (arith, line_length i (entry_in l t i), ap length shown_is, length-append (word_of x.kind) (operands t x.kind x.a x.b))
 
-  pub line_put : (before : Bytes) → ((((before ++ decimal i) ++ ascii " ") ++ word_of x.kind) ++ operands t x.kind x.a x.b) ++ ascii "\n" ≡ before ++ line i (entry_in l t i)
+  -- blank and feed are the bytes that the code puts after the number and at the end
+  pub line_put : (before : Bytes) {blank feed : ℕ} → blank ≡ 32 → feed ≡ 10 → ((((before ++ decimal i) ++ blank ∷ []) ++ word_of x.kind) ++ operands t x.kind x.a x.b) ++ feed ∷ [] ≡ before ++ line i (entry_in l t i)
   unfolding line
-  line_put before = simp append_assoc (rw (← shown_is) (simp append_assoc))
+  line_put before d e = rw (d, e) (simp append_assoc (rw (← shown_is) (simp append_assoc)))
 
 -- THE LINES that are still to be put, from entry i on
 abbrev pub left : L.List → Bytes → ℕ → Bytes

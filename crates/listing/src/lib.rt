@@ -17,20 +17,22 @@ use question::{Entry, Kind, List};
 // No listing is longer.
 pub const MOST_LISTING: usize = 2369;
 
-// A kind's word, with the blank after it where something follows.
-fn word_of(kind: Kind) -> &'static [u8]
-    ensures { result.now ≡ word_of kind }
+// Puts a kind's word, with the blank after it where something follows: each in an arm of its own, for a copy of a known length.
+// The line feed at least comes after it.
+fn put_kind(page: &mut Page, kind: Kind)
+    requires { length page.old + length (word_of kind) < MOST_LISTING }
+    ensures { page.new ≡ page.old ++ word_of kind }
 {
     match kind {
-        Kind::Itself => b"self",
-        Kind::Label => b"label ",
-        Kind::Text => b"text ",
-        Kind::Child => b"child ",
-        Kind::At => b"at ",
-        Kind::Below => b"below ",
-        Kind::Or => b"or ",
-        Kind::And => b"and ",
-        Kind::Not => b"not ",
+        Kind::Itself => page.put(b"self"),
+        Kind::Label => page.put(b"label "),
+        Kind::Text => page.put(b"text "),
+        Kind::Child => page.put(b"child "),
+        Kind::At => page.put(b"at "),
+        Kind::Below => page.put(b"below "),
+        Kind::Or => page.put(b"or "),
+        Kind::And => page.put(b"and "),
+        Kind::Not => page.put(b"not "),
     }
 }
 
@@ -59,7 +61,7 @@ fn put_line(page: &mut Page, list: &List, text: &[u8], i: usize)
     let entry = list.entry(i).unwrap();
     page.put_number(i);
     page.put(b" ");
-    page.put(word_of(entry.kind));
+    put_kind(page, entry.kind);
     put_operands(page, text, entry);
     page.put(b"\n");
 }

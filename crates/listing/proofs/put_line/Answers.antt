@@ -1,5 +1,5 @@
 use native.Mathlib.Omega.{arith}
-use mathlib.Core.Path.{◌≡◌, ap}
+use mathlib.Core.Path.{◌≡◌, refl, ap}
 use Prim.Native.Nat.{ℕ, ◌+◌}
 use lib.ListN.{length, length-append}
 use Rattle.listing.specs.Listing.{decimal, line}
@@ -17,16 +17,16 @@ put_number-requires-clause-room c = omega (arith, c.requires.room, size (goal.at
 pub put-requires : goal.put-requires
 put-requires c = omega (arith, c.requires.room, size (goal.at.put-requires c).After-unwrap-entry, ap length c.put_number.ensures, length-append {A = ℕ})
 
-pub put-requires-2 : goal.put-requires-2
-put-requires-2 c = omega (arith, c.requires.room, size (goal.at.put-requires-2 c).After-unwrap-entry, ap length c.put_number.ensures, ap length c.put.ensures, ap length c.word_of.ensures, length-append {A = ℕ})
+pub put_kind-requires : goal.put_kind-requires
+put_kind-requires c = omega (arith, c.requires.room, size (goal.at.put_kind-requires c).After-unwrap-entry, ap length c.put_number.ensures, ap length c.put.ensures, length-append {A = ℕ})
 
 pub put_operands-requires-clause-room : goal.put_operands-requires-clause-room
-put_operands-requires-clause-room c = omega (arith, c.requires.room, size (goal.at.put_operands-requires-clause-room c).After-unwrap-entry, ap length c.put_number.ensures, ap length c.put.ensures, ap length c.put-2.ensures, ap length c.word_of.ensures, length-append {A = ℕ})
+put_operands-requires-clause-room c = omega (arith, c.requires.room, size (goal.at.put_operands-requires-clause-room c).After-unwrap-entry, ap length c.put_number.ensures, ap length c.put.ensures, ap length c.put_kind.ensures, length-append {A = ℕ})
 
-pub put-requires-3 : goal.put-requires-3
-put-requires-3 c = omega (arith, c.requires.room, size (goal.at.put-requires-3 c).After-unwrap-entry, ap length c.put_number.ensures, ap length c.put.ensures, ap length c.put-2.ensures, ap length c.word_of.ensures, ap length c.put_operands.ensures, length-append {A = ℕ})
+pub put-requires-2 : goal.put-requires-2
+put-requires-2 c = omega (arith, c.requires.room, size (goal.at.put-requires-2 c).After-unwrap-entry, ap length c.put_number.ensures, ap length c.put.ensures, ap length c.put_kind.ensures, ap length c.put_operands.ensures, length-append {A = ℕ})
 
 pub returns : goal.returns
 returns c =
-    let e = line_put c.args.list.now c.args.text.now c.args.i (rw c.unwrap-entry.ensures at c.entry.ensures) c.args.page.now in
-    cc
+    rw (c.put-2.ensures, c.put_operands.ensures, c.put_kind.ensures, c.put.ensures, c.put_number.ensures)
+    (line_put c.args.list.now c.args.text.now c.args.i (rw c.unwrap-entry.ensures at c.entry.ensures) c.args.page.now refl refl)

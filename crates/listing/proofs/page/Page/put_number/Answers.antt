@@ -17,6 +17,6 @@ put-requires-2 c = elim c.if-n-ge10.branch [
 
 pub returns : goal.returns
 returns c = elim c.if-n-ge10.branch [
-  | then-n-ge10 w ↦ let e = put_two c.args.self.now c.args.n w.if-n-ge10.true in cc
-  | else-n-ge10 w ↦ let e = put_one c.args.self.now c.args.n w.if-n-ge10.false in cc
+  | then-n-ge10 w ↦ put_two _ w.if-n-ge10.true w.put.ensures (rw w.self-is at c.put-2.ensures) (omega arith) (omega arith)
+  | else-n-ge10 w ↦ put_one _ w.if-n-ge10.false (rw w.self-is at c.put-2.ensures) (omega arith)
 ]
