@@ -1,4 +1,4 @@
--- WHAT JOINING GIVES, by the tests that the code makes of the two operands: d is the constant that decides, and the other one leaves the other operand.
+-- WHAT JOINING GIVES, by the tests that the code makes of the two operands: d is the constant that decides, and the other one, 4096 less d, leaves the other operand.
 use Prim.Native.Nat.{ℕ, ◌+◌, ◌-◌, ◌*◌, ◌≤◌}
 use native.Mathlib.Omega.{arith}
 use native.Mathlib.Decide.{ℕ_discrete}
@@ -19,8 +19,8 @@ tag_is And = refl
 tag_is Or = refl
 tag_is Not = refl
 
-module _ (size op a b : ℕ) (m : List ℕ) (n d leaves : ℕ) (small : op ≤ 1) (is : d ≡ op * 4096) (rest : d + leaves ≡ 4096) where
-  pub takes_left : (a ≡ d) ⊎ ((a ≡ d → ⊥) × (b ≡ leaves)) → got m n a ≡ join_f size op a b m n
+module _ (size op a b : ℕ) (m : List ℕ) (n d : ℕ) (small : op ≤ 1) (is : d ≡ op * 4096) where
+  pub takes_left : (a ≡ d) ⊎ ((a ≡ d → ⊥) × (b + d ≡ 4096)) → got m n a ≡ join_f size op a b m n
   unfolding join_f
   takes_left (inl e) = simp (eq-eqb a (op * 4096) (omega arith))
   takes_left (inr (u, e)) = go (ℕ_discrete a (4096 - op * 4096))
@@ -29,7 +29,7 @@ module _ (size op a b : ℕ) (m : List ℕ) (n d leaves : ℕ) (small : op ≤ 1
       go (yes y) = let same : a ≡ b = omega arith in simp (ne_eqb a (op * 4096) (λ z. u (omega arith)), eq-eqb _ _ y) (ap (got m n) same)
       go (no y) = simp (ne_eqb a (op * 4096) (λ z. u (omega arith)), ne_eqb _ _ y, ne_eqb b (op * 4096) (λ z. omega arith), eq-eqb b (4096 - op * 4096) (omega arith))
 
-  pub takes_right : (a ≡ d → ⊥) → (b ≡ d) ⊎ ((b ≡ d → ⊥) × (a ≡ leaves)) → got m n b ≡ join_f size op a b m n
+  pub takes_right : (a ≡ d → ⊥) → (b ≡ d) ⊎ ((b ≡ d → ⊥) × (a + d ≡ 4096)) → got m n b ≡ join_f size op a b m n
   unfolding join_f
   takes_right x (inr (u, e)) = simp (ne_eqb a (op * 4096) (λ z. x (omega arith)), eq-eqb a (4096 - op * 4096) (omega arith))
   takes_right x (inl e) = go (ℕ_discrete a (4096 - op * 4096))
@@ -38,7 +38,7 @@ module _ (size op a b : ℕ) (m : List ℕ) (n d leaves : ℕ) (small : op ≤ 1
       go (yes y) = simp (ne_eqb a (op * 4096) (λ z. x (omega arith)), eq-eqb _ _ y)
       go (no y) = simp (ne_eqb a (op * 4096) (λ z. x (omega arith)), ne_eqb _ _ y, eq-eqb b (op * 4096) (omega arith))
 
-  pub takes_step : (a ≡ d → ⊥) → (a ≡ leaves → ⊥) → (b ≡ d → ⊥) → (b ≡ leaves → ⊥) → add_f size op a b m n ≡ join_f size op a b m n
+  pub takes_step : (a ≡ d → ⊥) → (a + d ≡ 4096 → ⊥) → (b ≡ d → ⊥) → (b + d ≡ 4096 → ⊥) → add_f size op a b m n ≡ join_f size op a b m n
   unfolding join_f
   takes_step x y z w = simp (
     ne_eqb a (op * 4096) (λ e. x (omega arith)),

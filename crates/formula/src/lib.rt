@@ -90,7 +90,8 @@ impl<'a> Source<'a> {
         let rows = self.fragment.rows;
         let start = rows[k * 6 + field] as usize;
         let size = rows[k * 6 + (field + 1)] as usize;
-        self.text[x.a..x.a + x.b] == self.fragment.pool[start..start + size]
+        // The lengths come first, so that a word of another length costs no call of `==`, for each row and entry.
+        x.b == size && self.text[x.a..x.a + x.b] == self.fragment.pool[start..start + x.b]
     }
 
     // What an entry of a kind that needs no other entry says at row k, as a reference; true for every other kind.
