@@ -67,14 +67,14 @@ fn show(rt: &impl Print, name: &str, question: &str) -> io::Result<()> {
     ) else {
         return println!(rt; "{name}      WRONG: a depot refuses  {question}");
     };
-    let replies = [a, b, c];
-    print!(rt; "{name}      {:>3}", list.count)?;
-    for reply in replies {
-        print!(rt; "  {:>3}", reply.len())?;
-    }
-    match all_orders(list.count, replies) {
-        Some(said) => println!(rt; "    {said:<8}{question}"),
-        None => println!(rt; "    WRONG   {question}"),
+    let (entries, x, y, z) = (list.count, a.len(), b.len(), c.len());
+    match all_orders(entries, [a, b, c]) {
+        Some(said) => println!(rt;
+            "{name}      {entries:>3}  {x:>3}  {y:>3}  {z:>3}    {said:<8}{question}"
+        ),
+        None => println!(rt;
+            "{name}      {entries:>3}  {x:>3}  {y:>3}  {z:>3}    WRONG   {question}"
+        ),
     }
 }
 
