@@ -1,4 +1,5 @@
--- WHAT JOINING GIVES, by the tests that the code makes of the two operands: d is the constant that decides, and the other one, 4096 less d, leaves the other operand.
+-- WHAT JOINING GIVES, by the tests that the code makes of the two operands: d is the constant that decides, and the other one, 4096 less d,
+-- leaves the other operand.
 use Prim.Native.Nat.{ℕ, ◌+◌, ◌-◌, ◌*◌, ◌≤◌}
 use native.Mathlib.Omega.{arith}
 use native.Mathlib.Decide.{ℕ_discrete}
@@ -29,14 +30,15 @@ module _ (size op a b : ℕ) (m : List ℕ) (n d : ℕ) (small : op ≤ 1) (is :
       go (yes y) = let same : a ≡ b = omega arith in simp (ne_eqb a (op * 4096) (λ z. u (omega arith)), eq-eqb _ _ y) (ap (got m n) same)
       go (no y) = simp (ne_eqb a (op * 4096) (λ z. u (omega arith)), ne_eqb _ _ y, ne_eqb b (op * 4096) (λ z. omega arith), eq-eqb b (4096 - op * 4096) (omega arith))
 
-  pub takes_right : (a ≡ d → ⊥) → (b ≡ d) ⊎ ((b ≡ d → ⊥) × (a + d ≡ 4096)) → got m n b ≡ join_f size op a b m n
+  pub takes_right : (a + d ≡ 4096) ⊎ (b ≡ d) → got m n b ≡ join_f size op a b m n
   unfolding join_f
-  takes_right x (inr (u, e)) = simp (ne_eqb a (op * 4096) (λ z. x (omega arith)), eq-eqb a (4096 - op * 4096) (omega arith))
-  takes_right x (inl e) = go (ℕ_discrete a (4096 - op * 4096))
+  takes_right (inl e) = simp (ne_eqb a (op * 4096) (λ z. omega arith), eq-eqb a (4096 - op * 4096) (omega arith))
+  takes_right (inr e) = go (ℕ_discrete a (op * 4096)) (ℕ_discrete a (4096 - op * 4096))
     where
-      go : Dec (a ≡ 4096 - op * 4096) → got m n b ≡ join_f size op a b m n
-      go (yes y) = simp (ne_eqb a (op * 4096) (λ z. x (omega arith)), eq-eqb _ _ y)
-      go (no y) = simp (ne_eqb a (op * 4096) (λ z. x (omega arith)), ne_eqb _ _ y, eq-eqb b (op * 4096) (omega arith))
+      go : Dec (a ≡ op * 4096) → Dec (a ≡ 4096 - op * 4096) → got m n b ≡ join_f size op a b m n
+      go (yes x) y = let same : b ≡ a = omega arith in simp (eq-eqb _ _ x) (ap (got m n) same)
+      go (no x) (yes y) = simp (ne_eqb a (op * 4096) x, eq-eqb _ _ y)
+      go (no x) (no y) = simp (ne_eqb a (op * 4096) x, ne_eqb _ _ y, eq-eqb b (op * 4096) (omega arith))
 
   pub takes_step : (a ≡ d → ⊥) → (a + d ≡ 4096 → ⊥) → (b ≡ d → ⊥) → (b + d ≡ 4096 → ⊥) → add_f size op a b m n ≡ join_f size op a b m n
   unfolding join_f

@@ -168,11 +168,15 @@ impl<'a> Memory<'a> {
     {
         let decides = Self::deciding(op);
         let leaves = TRUE - decides;
-        if a == decides || b == leaves {
+        // a first: a test's constant then needs no look at b, for each row and entry
+        if a == decides {
             return Ok(a);
         }
-        if b == decides || a == leaves {
+        if a == leaves || b == decides {
             return Ok(b);
+        }
+        if b == leaves {
+            return Ok(a);
         }
         self.added(op, a, b)
     }
