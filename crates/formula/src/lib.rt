@@ -209,16 +209,19 @@ impl<'a> Memory<'a> {
         }
     }
 
-    // V of an entry by its kind, where the row's references begin at `at`; `told` is what a test says.
-    fn value(&mut self, at: usize, x: Entry, told: u16) -> Result<u16, TooMany>
+    // V of an entry by its kind at row k, whose references begin at `at`. A test is made in its own arm, for each row and entry.
+    fn value(&mut self, source: &Source, at: usize, k: usize, x: Entry) -> Result<u16, TooMany>
+        requires k_in_bounds { k * 6 + 6 ≤ length source.now.fragment.rows.now }
+        requires real_row { RealRow (fragment_of source.now) k }
+        requires rule { (e : ℕ) × EntryRule source.now.text.now e (code x.kind) x.a x.b }
         requires by_index { (e : ℕ) × (at + e ≤ self.old.cells) × Operands e x.kind x.a x.b }
         ensures same { Same self.old self.new }
-        ensures gives { Gives (value_f self.old.cells at (placed (code x.kind) x.a x.b) told self.old.work.now self.old.steps) self.new result }
+        ensures gives { Gives (value_f self.old.cells at (placed (code x.kind) x.a x.b) (test_f (fragment_of source.now) k (entry_of (word source.now.text.now) (code x.kind) x.a x.b)) self.old.work.now self.old.steps) self.new result }
     {
         let c = self.cells + at;
         let d = 2 * self.cells + at;
         match x.kind {
-            Kind::Itself | Kind::Label | Kind::Text => Ok(told),
+            Kind::Itself | Kind::Label | Kind::Text => Ok(source.tested(k, x)),
             Kind::Child => Ok(self.work[c + x.a]),
             Kind::Below => Ok(self.work[d + x.a]),
             Kind::Not => {
@@ -236,15 +239,25 @@ impl<'a> Memory<'a> {
         }
     }
 
-    // Entry e of a real row: V by its kind, then D becomes V or D. Its row's place and what a test told are worked out once a row.
-    fn entered(&mut self, at: usize, e: usize, x: Entry, told: u16) -> Result<(), TooMany>
+    // Entry e of row k, a real one: V by its kind, then D becomes V or D. Its row's place is worked out once a row.
+    fn entered(
+        &mut self,
+        source: &Source,
+        at: usize,
+        k: usize,
+        e: usize,
+        x: Entry,
+    ) -> Result<(), TooMany>
+        requires k_in_bounds { k * 6 + 6 ≤ length source.now.fragment.rows.now }
+        requires real_row { RealRow (fragment_of source.now) k }
+        requires rule { EntryRule source.now.text.now e (code x.kind) x.a x.b }
         requires e_bound { at + e < self.old.cells }
         requires reads { Operands e x.kind x.a x.b }
         ensures same { Same self.old self.new }
-        ensures does { Does (enter_f self.old.cells at e (placed (code x.kind) x.a x.b) told (state self.old)) self.new result }
+        ensures does { Does (enter_f self.old.cells at e (placed (code x.kind) x.a x.b) (test_f (fragment_of source.now) k (entry_of (word source.now.text.now) (code x.kind) x.a x.b)) (state self.old)) self.new result }
     {
         let lower = 2 * self.cells + at + e;
-        let v = self.value(at, x, told)?;
+        let v = self.value(source, at, k, x)?;
         let below = self.work[lower];
         let d = self.either(v, below)?;
         self.work[at + e] = v;
@@ -263,7 +276,7 @@ impl<'a> Memory<'a> {
     {
         for e in 0..source.list.count {
             let x = source.entry(e);
-            self.entered(at, e, x, source.tested(k, x))?;
+            self.entered(source, at, k, e, x)?;
         }
         Ok(())
     }

@@ -5,7 +5,7 @@ use Rattle.formula.proofs.Stops.{room_of, gives_along}
 use Rattle.formula.proofs.Memory.value.Goals as goal
 
 pub returns-in-Itself-clause-gives : goal.returns-in-Itself-clause-gives
-returns-in-Itself-clause-gives c = record { is = told_value _ _ _ _ _ _ _ c.args.x.kind c.in-Itself.is; count = (room_of c.args.self.now).count }
+returns-in-Itself-clause-gives c = record { is = rw (← c.tested.ensures) (told_value _ _ _ _ _ _ _ c.args.x.kind c.in-Itself.is); count = (room_of c.args.self.now).count }
 
 pub returns-in-Child-clause-gives : goal.returns-in-Child-clause-gives
 returns-in-Child-clause-gives c = record { is = child_value _ _ _ _ _ _ _ c.args.x.kind c.in-Child.is (omega arith); count = (room_of c.args.self.now).count }

@@ -17,14 +17,14 @@ returns-in_err-entered-clause-does c =
     let a = c.args in
     let s = a.source.now in
     let l = c.loop-e in
-    does_stop _ _ _ c.from_residual.ensures (going_stops a.self.now l.self _ (entry_over s.list s.text.now (fragment_of s) a.self.now.cells a.at a.k) l.e s.list.count _ c.loop-e-test.true l.invariant (entered_is s.list s.text.now l.e c.entry-x.result c.entry-x.ensures (fragment_of s) a.self.now.cells a.at a.k _ (state l.self) l.invariant.same.1 c.tested.ensures) c.in_err-entered.ensures.does)
+    does_stop _ _ _ c.from_residual.ensures (going_stops a.self.now l.self _ (entry_over s.list s.text.now (fragment_of s) a.self.now.cells a.at a.k) l.e s.list.count _ c.loop-e-test.true l.invariant (entered_is s.list s.text.now l.e c.entry-x.result c.entry-x.ensures (fragment_of s) a.self.now.cells a.at a.k _ (state l.self) l.invariant.same.1 refl) c.in_err-entered.ensures.does)
 
 pub loop-e-preserved : goal.loop-e-preserved
 loop-e-preserved c =
     let a = c.args in
     let s = a.source.now in
     let l = c.loop-e in
-    going_on a.self.now l.self c.entered.new.self _ l.e s.list.count _ c.loop-e-test.true l.invariant (entered_is s.list s.text.now l.e c.entry-x.result c.entry-x.ensures (fragment_of s) a.self.now.cells a.at a.k _ (state l.self) l.invariant.same.1 c.tested.ensures) c.in_ok-entered.ensures.same c.in_ok-entered.ensures.does
+    going_on a.self.now l.self c.entered.new.self _ l.e s.list.count _ c.loop-e-test.true l.invariant (entered_is s.list s.text.now l.e c.entry-x.result c.entry-x.ensures (fragment_of s) a.self.now.cells a.at a.k _ (state l.self) l.invariant.same.1 refl) c.in_ok-entered.ensures.same c.in_ok-entered.ensures.does
 
 pub returns-clause-does : goal.returns-clause-does
 returns-clause-does c = gone c.args.self.now c.loop-e.self _ c.loop-e.e c.args.source.now.list.count _ c.loop-e-test.false c.loop-e.invariant
