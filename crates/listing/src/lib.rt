@@ -87,7 +87,8 @@ pub fn question_listing(list: List, text: &[u8], out: &mut [u8]) -> usize
     if !list_ok(list, text) {
         return 0;
     }
-    let mut page = Page::new();
+    let mut bytes = [0; MOST_LISTING];
+    let mut page = Page::on(&mut bytes);
     put_listing(&mut page, &list, text);
     let written = page.written();
     let size = written.len();

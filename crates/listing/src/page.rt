@@ -1,4 +1,4 @@
-// The page that a listing is written on: fixed memory, and how much of it is filled. By its contract `write!` may fail on any
+// The page that a listing is written on: lent memory, and how much of it is filled. By its contract `write!` may fail on any
 // page, and a listing may not (`Lists`): so numbers are put digit by digit.
 ghost use Rattle.std.specs.Prelude.{◌≡◌, ℕ, ◌+◌, ◌<◌, ◌≤◌, List, [], ◌++◌, length, take};
 ghost use Rattle.meaning.specs.Bytes.{ascii};
@@ -9,34 +9,34 @@ use crate::MOST_LISTING;
 use std::marker::Model;
 
 #[derive(Drop)]
-pub(crate) struct Page {
-    bytes: [u8; MOST_LISTING],
+pub(crate) struct Page<'a> {
+    bytes: &'a mut [u8],
     filled: usize,
 }
 
 // Clauses see the bytes that were put.
-impl Model for Page {
+impl<'a> Model for Page<'a> {
     ghost Value = { List ℕ };
 
-    ghost view = { λ p. take p.filled p.bytes };
+    ghost view = { λ p. take p.filled p.bytes.now };
 
-    ghost invariant = { λ p. p.filled ≤ MOST_LISTING };
+    ghost invariant = { λ p. (p.filled ≤ MOST_LISTING) × (length p.bytes.now ≡ MOST_LISTING) };
 }
 
-impl Page {
-    pub(crate) fn new() -> Self
+impl<'a> Page<'a> {
+    // An empty page on lent memory: so how much is filled stays apart from the bytes, and in a register.
+    pub(crate) fn on(bytes: &'a mut [u8]) -> Page<'a>
+        requires { length bytes.old ≡ MOST_LISTING }
         ensures { result ≡ [] }
     {
-        Page {
-            bytes: [0; MOST_LISTING],
-            filled: 0,
-        }
+        Page { bytes, filled: 0 }
     }
 
     pub(crate) fn written(&self) -> &[u8]
         ensures { result.now ≡ self.now }
     {
-        &self.bytes[..self.filled]
+        let bytes = &*self.bytes;
+        &bytes[..self.filled]
     }
 
     pub(crate) fn put(&mut self, w: &[u8])
@@ -44,7 +44,8 @@ impl Page {
         ensures { self.new ≡ self.old ++ w.now }
     {
         let end = self.filled + w.len();
-        self.bytes[self.filled..end].copy_from_slice(w);
+        let bytes = &mut *self.bytes;
+        bytes[self.filled..end].copy_from_slice(w);
         self.filled = end;
     }
 
